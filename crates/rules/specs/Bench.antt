@@ -179,6 +179,8 @@ slips =
     ∷ record { asked = networkRun crossed 10 [] 3; said = runs (stopped (word 0 5 (pos 2) ∷ word 1 5 (pos 1) ∷ []) 12 10 0) }
     -- an overfull queue and no room in one instant: 11
     ∷ record { asked = networkRun fullQueue 2 (word 0 1 (pos 2) ∷ word 0 1 (pos 3) ∷ []) 0; said = runs (stopped [] 11 1 0) }
+    -- a version that is not 1 is found before the counts
+    ∷ record { asked = checkOf (0 ∷ 0 ∷ 0 ∷ []); said = checks (record { number = 2; place = 0; nodes = 0; channels = 0 }) }
     -- of several arrivals at one instant a register keeps the last
     ∷ record { asked = networkRun sampled 20 (word 0 10 (pos 8) ∷ word 0 10 (pos 9) ∷ []) 8; said = runs (ended (word 1 10 (pos 5) ∷ word 1 20 (pos 9) ∷ [])) }
     ∷ []

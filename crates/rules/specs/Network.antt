@@ -19,12 +19,20 @@ pub record Network : Type 0 where
   pub channels : List Channel
   pub tokens : List (List ℤ)
 
+-- node n among these; behind the last one, a record of zeros
+abbrev pub nodeAmong : List Node → ℕ → Node
+nodeAmong nodes n = getD nodes n (record { kind = 0; period = 0; deadline = 0; constant = pos 0 })
+
 abbrev pub nodeOf : Network → ℕ → Node
-nodeOf net n = getD (net .nodes) n (record { kind = 0; period = 0; deadline = 0; constant = pos 0 })
+nodeOf net n = nodeAmong (net .nodes) n
+
+-- channel c among these; behind the last one, a record of zeros
+abbrev pub channelAmong : List Channel → ℕ → Channel
+channelAmong channels c =
+    getD channels c (record { sort = 0; writer = 0; reader = 0; port = 0; capacity = 0; initial = 0 })
 
 abbrev pub channelOf : Network → ℕ → Channel
-channelOf net c =
-    getD (net .channels) c (record { sort = 0; writer = 0; reader = 0; port = 0; capacity = 0; initial = 0 })
+channelOf net c = channelAmong (net .channels) c
 
 -- the number that stands for the outside, as a writer or a reader
 abbrev pub outside : ℕ

@@ -1,7 +1,7 @@
 -- Table bits: fields, and the reading of a table piece by piece. Assumes nothing.
 use Prim.Native.Nat.{ℕ, zero, suc, _+_, _-_, _*_, _/_, _%_, _^_}
 use mathlib.Core.Bool.{Bool, true, false, cond, not, _&&_}
-use mathlib.Core.List.{List, [], _∷_}
+use mathlib.Core.List.{List, [], _∷_, _++_}
 use lib.Dec.{eqb, leb, ltb}
 use lib.IntN.{ℤ}
 use lib.ListN.{getD, length}
@@ -65,14 +65,14 @@ nodeAt s at =
       constant = signed (fieldAt s (at + 37) 32);
     }
 
--- so many nodes that start at a bit, the first of them node n
-unfoldable pub nodesFrom : List ℕ → ℕ → ℕ → ℕ → Reading (List Node)
-nodesFrom s zero n at = read []
-nodesFrom s (suc left) n at =
-    piece s at 69 (nodeAt s at)
-    then λ node. unless (nodeOk node) 4 n node
-    then λ node. nodesFrom s left (suc n) (at + 69)
-    then λ nodes. read (node ∷ nodes)
+-- node n's piece, behind the header and the nodes before it
+unfoldable pub nodePiece : List ℕ → ℕ → Reading Node
+nodePiece s n = piece s (24 + 69 * n) 69 (nodeAt s (24 + 69 * n)) then λ node. unless (nodeOk node) 4 n node
+
+-- the first n nodes
+unfoldable pub nodesUpTo : List ℕ → ℕ → Reading (List Node)
+nodesUpTo s zero = read []
+nodesUpTo s (suc n) = nodesUpTo s n then λ nodes. nodePiece s n then λ node. read (nodes ++ (node ∷ []))
 
 -- a channel's 29 bits: sort 1, writer 6, reader 6, port 2, capacity 7, initial count 7
 unfoldable pub channelAt : List ℕ → ℕ → Channel
@@ -86,31 +86,47 @@ channelAt s at =
       initial = fieldAt s (at + 22) 7;
     }
 
--- so many tokens of 32 bits that start at a bit, oldest first, each a piece
-unfoldable pub tokensFrom : List ℕ → ℕ → ℕ → Reading (List ℤ)
-tokensFrom s zero at = read []
-tokensFrom s (suc left) at =
-    piece s at 32 (signed (fieldAt s at 32))
-    then λ token. tokensFrom s left (at + 32)
-    then λ tokens. read (token ∷ tokens)
+-- a token's piece
+unfoldable pub tokenPiece : List ℕ → ℕ → Reading ℤ
+tokenPiece s at = piece s at 32 (signed (fieldAt s at 32))
 
--- channels with their tokens, and the bit behind them
+-- the first k tokens that stand at a bit, oldest first
+unfoldable pub tokensUpTo : List ℕ → ℕ → ℕ → Reading (List ℤ)
+tokensUpTo s at zero = read []
+tokensUpTo s at (suc k) = tokensUpTo s at k then λ tokens. tokenPiece s (at + 32 * k) then λ token. read (tokens ++ (token ∷ []))
+
+-- channels with their tokens, their capacities together, and the bit behind them
 pub record Channels : Type 0 where
   pub channels : List Channel
   pub tokens : List (List ℤ)
+  pub together : ℕ
   pub end : ℕ
 
--- so many channels that start at a bit, the first of them channel c, in a network of so many nodes, after channels whose capacities
--- together are `before`
-unfoldable pub channelsFrom : List ℕ → ℕ → ℕ → ℕ → ℕ → ℕ → Reading Channels
-channelsFrom s nodes zero c at before = read (record { channels = []; tokens = []; end = at })
-channelsFrom s nodes (suc left) c at before =
+-- one channel more, with its tokens
+unfoldable pub withChannel : Channels → Channel → List ℤ → Channels
+withChannel before ch tokens =
+    record {
+      channels = before .channels ++ (ch ∷ []);
+      tokens = before .tokens ++ (tokens ∷ []);
+      together = before .together + ch .capacity;
+      end = before .end + 29 + 32 * ch .initial;
+    }
+
+-- the piece of channel c, which stands at a bit behind channels with these capacities together, in a network of so many nodes
+unfoldable pub channelPiece : List ℕ → ℕ → ℕ → ℕ → ℕ → Reading Channel
+channelPiece s nodes c at together =
     piece s at 29 (channelAt s at)
     then λ ch. unless (channelOk nodes ch) 5 c ch
-    then λ ch. unless (leb (before + ch .capacity) 1024) 6 c ch
-    then λ ch. tokensFrom s (ch .initial) (at + 29)
-    then λ tokens. channelsFrom s nodes left (suc c) (at + 29 + 32 * ch .initial) (before + ch .capacity)
-    then λ rest. read (record { channels = ch ∷ rest .channels; tokens = tokens ∷ rest .tokens; end = rest .end })
+    then λ ch. unless (leb (together + ch .capacity) 1024) 6 c ch
+
+-- the first c channels, behind so many nodes
+unfoldable pub channelsUpTo : List ℕ → ℕ → ℕ → Reading Channels
+channelsUpTo s nodes zero = read (record { channels = []; tokens = []; together = 0; end = 24 + 69 * nodes })
+channelsUpTo s nodes (suc c) =
+    channelsUpTo s nodes c
+    then λ before. channelPiece s nodes c (before .end) (before .together)
+    then λ ch. tokensUpTo s (before .end + 29) (ch .initial)
+    then λ tokens. read (withChannel before ch tokens)
 
 -- zero bits to the end of the byte, then nothing
 unfoldable pub endsAt : List ℕ → ℕ → Bool
@@ -124,7 +140,7 @@ faultyNode net = lowest (length (net .nodes)) (λ n. not (portsOk net n))
 unfoldable pub network : List ℕ → Reading Network
 network s =
     headerAt s
-    then λ h. nodesFrom s (h .nodes) 0 24
-    then λ nodes. channelsFrom s (h .nodes) (h .channels) 0 (24 + 69 * h .nodes) 0
-    then λ rest. unless (endsAt s (rest .end)) 7 0 (record { nodes = nodes; channels = rest .channels; tokens = rest .tokens })
+    then λ h. nodesUpTo s (h .nodes)
+    then λ nodes. channelsUpTo s (h .nodes) (h .channels)
+    then λ all. unless (endsAt s (all .end)) 7 0 (record { nodes = nodes; channels = all .channels; tokens = all .tokens })
     then λ net. unless (eqb (faultyNode net) (length (net .nodes))) 8 (faultyNode net) net

@@ -1,0 +1,127 @@
+-- The words of every run stand by time, and within an instant by channel, at most one for each. Assumes nothing.
+use Prim.Native.Nat.{ℕ, zero, suc, _+_, _-_, _*_, _^_, _≤_, _<_}
+use native.Mathlib.Nat.{not-suc-le-zero, le-refl, le-of-eq, zero-add}
+use native.Mathlib.Omega.{arith}
+use mathlib.Core.Bool.{cond, and-false}
+use mathlib.Core.List.{List, [], map, append-nil}
+use mathlib.Core.Option.{Option, none, some}
+use mathlib.Core.Path.{_≡_, refl, sym}
+use lib.Dec.{eqb, leb, ltb}
+use lib.IntN.{ℤ}
+use lib.ListN.{length, getD}
+use mir.Syntax.{w32}
+use mir.Val.{SFits}
+use borrow.Author.Tests.{leb-true}
+use Rattle.rules.specs.Lists.{tab, lowest}
+use Rattle.rules.specs.Network.{Network, Obeys, channelOf, isOut, countsOk}
+use Rattle.rules.specs.Table.{Reading, refusal, read, network}
+use Rattle.rules.specs.Instant.{word, timeIn, channelIn, Waiting, State, waitingOf, dueNow, written, afterWrites, overfull, outWords, judged, instant, Reached, running, halted, onward, reached}
+use Rattle.rules.specs.Refusals.{faultyArrival, outcome, run, wordsOf}
+use Rattle.rules.proofs.ListLaws.{by-test, true-or-false}
+use Rattle.rules.proofs.Sound.{Sound}
+use Rattle.rules.proofs.Reach.{sound}
+use Rattle.rules.proofs.Accepted.{accepted}
+use Rattle.rules.proofs.Arrivals.{Faultless, faultless-arrivals, none-arrives}
+use Rattle.rules.proofs.WordLaws.{time-of-word, channel-of-word, Rising, over, next, rising-within, rising-append, rising-joined, rising-at}
+
+-- a word's place in the order: its time first, then its channel, which has 8 bits
+abbrev pub stamp : ℕ → ℕ
+stamp w = timeIn w * 2 ^ 8 + channelIn w
+
+-- the words stand by time, and within an instant by channel, at most one for each
+abbrev pub Ordered : List ℕ → Type 0
+Ordered words = (i j : ℕ) → i < j → j < length words → stamp (getD words i 0) < stamp (getD words j 0)
+
+stamp-of-word : (c t : ℕ) (v : ℤ) → t < 2 ^ 24 → SFits w32 v → stamp (word c t v) ≡ t * 2 ^ 8 + c
+stamp-of-word c t v h fits = rw (time-of-word c t v h fits, channel-of-word c t v h fits)
+
+-- words in the place of instant t and channel c: at most one
+abbrev InPlace : ℕ → ℕ → List ℕ → Type 0
+InPlace t c words = Rising stamp (t * 2 ^ 8 + c) (t * 2 ^ 8 + suc c) words
+
+none-in-place : (t c : ℕ) → InPlace t c []
+none-in-place t c = over {low = t * 2 ^ 8 + c} {high = t * 2 ^ 8 + suc c} (omega arith)
+
+due-in-place : (t c : ℕ) (o : Option Waiting) → t < 2 ^ 24 → ((w : Waiting) → o ≡ some w → SFits w32 (w .value)) → InPlace t c (map (word c t) (dueNow o t))
+due-in-place t c none h fits = none-in-place t c
+due-in-place t c (some w) h fits =
+    let same = stamp-of-word c t (w .value) h (fits w refl) in
+    let up : suc (stamp (word c t (w .value))) ≤ t * 2 ^ 8 + suc c = omega arith in
+    by-test (eqb (w .due) t) (λ e. rw e (next (le-of-eq (sym same)) (over up))) (λ e. rw e (none-in-place t c))
+
+-- words in order, all of instants before t
+abbrev Before : ℕ → List ℕ → Type 0
+Before t words = Rising stamp 0 (t * 2 ^ 8) words
+
+before-next : {words : List ℕ} (t : ℕ) → Before t words → Before (suc t) words
+before-next t r =
+    let on : t * 2 ^ 8 ≤ suc t * 2 ^ 8 = omega arith in
+    rising-within (le-refl 0) on r
+
+few-channels : (net : Network) → Obeys net → length (net .channels) ≤ 64
+unfolding countsOk
+few-channels net obeys =
+    by-test (leb (length (net .channels)) 64) (leb-true (length (net .channels)) 64)
+    (λ e. true-or-false (simp (e, and-false) at (obeys .counts)) refl)
+
+module _ (net : Network) (arrivals : List ℕ) (obeys : Obeys net) (faultless : Faultless net arrivals) where
+  module _ (t : ℕ) (early : t < 2 ^ 24) (st : State) (s : Sound net t st) where
+    channel-in-place : (c : ℕ) → c < length (net .channels) → InPlace t c (cond (isOut (channelOf net c)) (map (word c t) (written net arrivals t st c)) [])
+    unfolding written
+    channel-in-place c below =
+        let writer = channelOf net c .writer in
+        let due = waitingOf st writer in
+        by-test (isOut (channelOf net c))
+        (λ e. rw (e, none-arrives net arrivals obeys faultless t c below e, append-nil (dueNow due t)) (due-in-place t c due early (s .valueFits writer)))
+        (λ e. rw e (none-in-place t c))
+
+    -- an instant's words rise, above those of the instants before
+    instant-rising : Rising stamp (t * 2 ^ 8) (suc t * 2 ^ 8) (outWords net arrivals t st)
+    unfolding outWords tab
+    instant-rising =
+        let n = length (net .channels) in
+        let few = few-channels net obeys in
+        let low : t * 2 ^ 8 ≤ t * 2 ^ 8 + 0 = omega arith in
+        let high : t * 2 ^ 8 + n ≤ suc t * 2 ^ 8 = omega arith in
+        rising-within low high (rising-joined _ (t * 2 ^ 8) n channel-in-place 0 n (zero-add n))
+
+    onward-before : (room : ℕ) (words : List ℕ) → Before t words → Before (suc t) (wordsOf (outcome (onward net arrivals room t (running words st))))
+    unfolding onward instant judged
+    onward-before room words r =
+        let full = lowest (length (net .channels)) (overfull net (afterWrites net arrivals t st)) in
+        by-test (ltb full (length (net .channels))) (λ e. rw e (before-next t r))
+        (λ e.
+        by-test (ltb (room - length words) (length (outWords net arrivals t st))) (λ g. rw (e, g) (before-next t r))
+        (λ g. rw (e, g) (rising-append r instant-rising)))
+
+  reached-before : (room t : ℕ) → t ≤ 2 ^ 24 → Before t (wordsOf (outcome (reached net arrivals room t)))
+  unfolding reached
+  reached-before room zero h = over (le-refl 0)
+  reached-before room (suc t) h = step (reached net arrivals room t) refl (reached-before room t (omega arith))
+    where
+      step : (r : Reached) → reached net arrivals room t ≡ r → Before t (wordsOf (outcome r)) → Before (suc t) (wordsOf (outcome (onward net arrivals room t r)))
+      step (running words st) e r = onward-before t h st (sound net arrivals room t words st obeys e) room words r
+      step (halted words number i channel) e r = unfold onward in before-next t r
+
+none-ordered : Ordered []
+none-ordered i j before h = absurd (not-suc-le-zero h)
+
+-- by the two outcomes of a reading
+by-reading : {A P : Type 0} (r : Reading A) → ((number place : ℕ) → r ≡ refusal number place → P) → ((a : A) → r ≡ read a → P) → P
+by-reading (refusal number place) refuses reads = refuses number place refl
+by-reading (read a) refuses reads = reads a refl
+
+-- the words of every run, for every input
+pub run-ordered : (table : List ℕ) (horizon : ℕ) (arrivals : List ℕ) (room : ℕ) → Ordered (wordsOf (run table horizon arrivals room))
+unfolding run
+run-ordered table horizon arrivals room =
+    by-reading (network table) (λ number place e. rw e none-ordered)
+    (λ net e.
+    by-test (leb horizon 16777215)
+    (λ h.
+    by-test (eqb (faultyArrival net arrivals) (length arrivals))
+    (λ g.
+    let early : suc horizon ≤ 2 ^ 24 = omega (arith, leb-true horizon 16777215 h) in
+    rw (e, h, g) (rising-at (reached-before net arrivals (accepted table net e) (faultless-arrivals net arrivals g) room (suc horizon) early)))
+    (λ g. rw (e, h, g) none-ordered))
+    (λ h. rw (e, h) none-ordered))
