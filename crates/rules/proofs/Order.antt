@@ -6,12 +6,13 @@ use mathlib.Core.Bool.{cond, and-false}
 use mathlib.Core.List.{List, [], map, append-nil}
 use mathlib.Core.Option.{Option, none, some}
 use mathlib.Core.Path.{_≡_, refl, sym}
+use mathlib.Core.Logic.{_⊎_, inl, inr}
 use lib.Dec.{eqb, leb, ltb}
 use lib.IntN.{ℤ}
 use lib.ListN.{length, getD}
 use mir.Syntax.{w32}
 use mir.Val.{SFits}
-use borrow.Author.Tests.{leb-true}
+use borrow.Author.Tests.{leb-true, ltb-true, ltb-false}
 use Rattle.rules.specs.Lists.{tab, lowest}
 use Rattle.rules.specs.Network.{Network, Obeys, channelOf, isOut, countsOk}
 use Rattle.rules.specs.Table.{Reading, refusal, read, network}
@@ -22,15 +23,37 @@ use Rattle.rules.proofs.Sound.{Sound}
 use Rattle.rules.proofs.Reach.{sound}
 use Rattle.rules.proofs.Accepted.{accepted}
 use Rattle.rules.proofs.Arrivals.{Faultless, faultless-arrivals, none-arrives}
-use Rattle.rules.proofs.WordLaws.{time-of-word, channel-of-word, Rising, over, next, rising-within, rising-append, rising-joined, rising-at}
+use Rattle.rules.proofs.WordLaws.{time-of-word, channel-of-word, word-fits, Rising, over, next, rising-within, rising-append, rising-joined, rising-at, rising-fits}
+
+-- v stands before w: by time, and within an instant by channel
+abbrev pub Before : ℕ → ℕ → Type 0
+Before v w = (timeIn v < timeIn w) ⊎ ((timeIn v ≡ timeIn w) × (channelIn v < channelIn w))
+
+-- the words are 64-bit numbers that stand by time, and within an instant by channel, at most one for each
+pub record Ordered (words : List ℕ) : Type 0 where
+  pub fit : (i : ℕ) → i < length words → getD words i 0 < 2 ^ 64
+  pub before : (i j : ℕ) → i < j → j < length words → Before (getD words i 0) (getD words j 0)
 
 -- a word's place in the order: its time first, then its channel, which has 8 bits
-abbrev pub stamp : ℕ → ℕ
+abbrev stamp : ℕ → ℕ
 stamp w = timeIn w * 2 ^ 8 + channelIn w
 
--- the words stand by time, and within an instant by channel, at most one for each
-abbrev pub Ordered : List ℕ → Type 0
-Ordered words = (i j : ℕ) → i < j → j < length words → stamp (getD words i 0) < stamp (getD words j 0)
+by-stamp : (v w : ℕ) → v < 2 ^ 64 → w < 2 ^ 64 → stamp v < stamp w → Before v w
+by-stamp v w small little h =
+    by-test (ltb (timeIn v) (timeIn w)) (λ e. inl (ltb-true (timeIn v) (timeIn w) e))
+    (λ e.
+    let late : timeIn w ≤ timeIn v = ltb-false (timeIn v) (timeIn w) e in
+    let same : timeIn v ≡ timeIn w = omega arith in
+    let lower : channelIn v < channelIn w = omega arith in
+    inr (same, lower))
+
+rising-ordered : {low high : ℕ} {words : List ℕ} → Rising stamp low high words → Ordered words
+rising-ordered {words = words} r =
+    record {
+      fit = rising-fits r;
+      before = λ i j h k.
+          by-stamp (getD words i 0) (getD words j 0) (rising-fits r i (omega arith)) (rising-fits r j k) (rising-at r i j h k);
+    }
 
 stamp-of-word : (c t : ℕ) (v : ℤ) → t < 2 ^ 24 → SFits w32 v → stamp (word c t v) ≡ t * 2 ^ 8 + c
 stamp-of-word c t v h fits = rw (time-of-word c t v h fits, channel-of-word c t v h fits)
@@ -42,18 +65,18 @@ InPlace t c words = Rising stamp (t * 2 ^ 8 + c) (t * 2 ^ 8 + suc c) words
 none-in-place : (t c : ℕ) → InPlace t c []
 none-in-place t c = over {low = t * 2 ^ 8 + c} {high = t * 2 ^ 8 + suc c} (omega arith)
 
-due-in-place : (t c : ℕ) (o : Option Waiting) → t < 2 ^ 24 → ((w : Waiting) → o ≡ some w → SFits w32 (w .value)) → InPlace t c (map (word c t) (dueNow o t))
-due-in-place t c none h fits = none-in-place t c
-due-in-place t c (some w) h fits =
+due-in-place : (t c : ℕ) (o : Option Waiting) → c < 2 ^ 8 → t < 2 ^ 24 → ((w : Waiting) → o ≡ some w → SFits w32 (w .value)) → InPlace t c (map (word c t) (dueNow o t))
+due-in-place t c none few h fits = none-in-place t c
+due-in-place t c (some w) few h fits =
     let same = stamp-of-word c t (w .value) h (fits w refl) in
     let up : suc (stamp (word c t (w .value))) ≤ t * 2 ^ 8 + suc c = omega arith in
-    by-test (eqb (w .due) t) (λ e. rw e (next (le-of-eq (sym same)) (over up))) (λ e. rw e (none-in-place t c))
+    by-test (eqb (w .due) t) (λ e. rw e (next (word-fits c t (w .value) few h (fits w refl)) (le-of-eq (sym same)) (over up))) (λ e. rw e (none-in-place t c))
 
 -- words in order, all of instants before t
-abbrev Before : ℕ → List ℕ → Type 0
-Before t words = Rising stamp 0 (t * 2 ^ 8) words
+abbrev Earlier : ℕ → List ℕ → Type 0
+Earlier t words = Rising stamp 0 (t * 2 ^ 8) words
 
-before-next : {words : List ℕ} (t : ℕ) → Before t words → Before (suc t) words
+before-next : {words : List ℕ} (t : ℕ) → Earlier t words → Earlier (suc t) words
 before-next t r =
     let on : t * 2 ^ 8 ≤ suc t * 2 ^ 8 = omega arith in
     rising-within (le-refl 0) on r
@@ -71,8 +94,9 @@ module _ (net : Network) (arrivals : List ℕ) (obeys : Obeys net) (faultless : 
     channel-in-place c below =
         let writer = channelOf net c .writer in
         let due = waitingOf st writer in
+        let few : c < 2 ^ 8 = omega (arith, few-channels net obeys) in
         by-test (isOut (channelOf net c))
-        (λ e. rw (e, none-arrives net arrivals obeys faultless t c below e, append-nil (dueNow due t)) (due-in-place t c due early (s .valueFits writer)))
+        (λ e. rw (e, none-arrives net arrivals obeys faultless t c below e, append-nil (dueNow due t)) (due-in-place t c due few early (s .valueFits writer)))
         (λ e. rw e (none-in-place t c))
 
     -- an instant's words rise, above those of the instants before
@@ -85,7 +109,7 @@ module _ (net : Network) (arrivals : List ℕ) (obeys : Obeys net) (faultless : 
         let high : t * 2 ^ 8 + n ≤ suc t * 2 ^ 8 = omega arith in
         rising-within low high (rising-joined _ (t * 2 ^ 8) n channel-in-place 0 n (zero-add n))
 
-    onward-before : (room : ℕ) (words : List ℕ) → Before t words → Before (suc t) (wordsOf (outcome (onward net arrivals room t (running words st))))
+    onward-before : (room : ℕ) (words : List ℕ) → Earlier t words → Earlier (suc t) (wordsOf (outcome (onward net arrivals room t (running words st))))
     unfolding onward instant judged
     onward-before room words r =
         let full = lowest (length (net .channels)) (overfull net (afterWrites net arrivals t st)) in
@@ -94,17 +118,17 @@ module _ (net : Network) (arrivals : List ℕ) (obeys : Obeys net) (faultless : 
         by-test (ltb (room - length words) (length (outWords net arrivals t st))) (λ g. rw (e, g) (before-next t r))
         (λ g. rw (e, g) (rising-append r instant-rising)))
 
-  reached-before : (room t : ℕ) → t ≤ 2 ^ 24 → Before t (wordsOf (outcome (reached net arrivals room t)))
+  reached-before : (room t : ℕ) → t ≤ 2 ^ 24 → Earlier t (wordsOf (outcome (reached net arrivals room t)))
   unfolding reached
   reached-before room zero h = over (le-refl 0)
   reached-before room (suc t) h = step (reached net arrivals room t) refl (reached-before room t (omega arith))
     where
-      step : (r : Reached) → reached net arrivals room t ≡ r → Before t (wordsOf (outcome r)) → Before (suc t) (wordsOf (outcome (onward net arrivals room t r)))
+      step : (r : Reached) → reached net arrivals room t ≡ r → Earlier t (wordsOf (outcome r)) → Earlier (suc t) (wordsOf (outcome (onward net arrivals room t r)))
       step (running words st) e r = onward-before t h st (sound net arrivals room t words st obeys e) room words r
       step (halted words number i channel) e r = unfold onward in before-next t r
 
 none-ordered : Ordered []
-none-ordered i j before h = absurd (not-suc-le-zero h)
+none-ordered = record { fit = λ i h. absurd (not-suc-le-zero h); before = λ i j before h. absurd (not-suc-le-zero h) }
 
 -- by the two outcomes of a reading
 by-reading : {A P : Type 0} (r : Reading A) → ((number place : ℕ) → r ≡ refusal number place → P) → ((a : A) → r ≡ read a → P) → P
@@ -122,6 +146,6 @@ run-ordered table horizon arrivals room =
     by-test (eqb (faultyArrival net arrivals) (length arrivals))
     (λ g.
     let early : suc horizon ≤ 2 ^ 24 = omega (arith, leb-true horizon 16777215 h) in
-    rw (e, h, g) (rising-at (reached-before net arrivals (accepted table net e) (faultless-arrivals net arrivals g) room (suc horizon) early)))
+    rw (e, h, g) (rising-ordered (reached-before net arrivals (accepted table net e) (faultless-arrivals net arrivals g) room (suc horizon) early)))
     (λ g. rw (e, h, g) none-ordered))
     (λ h. rw (e, h) none-ordered))

@@ -25,19 +25,22 @@ value-of-word c t v h fits =
     let bits : word c t v % 2 ^ 32 ≡ pattern v = omega (arith, ofZ-fits w32 v fits .fits) in
     ap signed bits ∙ toZ-ofZ w32 v fits
 
--- the entries' places rise, from low on and below high
+pub word-fits : (c t : ℕ) (v : ℤ) → c < 2 ^ 8 → t < 2 ^ 24 → SFits w32 v → word c t v < 2 ^ 64
+word-fits c t v few h fits = omega (arith, ofZ-fits w32 v fits .fits)
+
+-- the entries are 64-bit numbers whose places rise, from low on and below high
 pub data Rising (place : ℕ → ℕ) : ℕ → ℕ → List ℕ → Type 0 where
   over : {low high : ℕ} → low ≤ high → Rising place low high []
-  next : {low high w : ℕ} {ws : List ℕ} → low ≤ place w → Rising place (suc (place w)) high ws → Rising place low high (w ∷ ws)
+  next : {low high w : ℕ} {ws : List ℕ} → w < 2 ^ 64 → low ≤ place w → Rising place (suc (place w)) high ws → Rising place low high (w ∷ ws)
 
 module _ {place : ℕ → ℕ} where
   pub rising-within : {lower low high higher : ℕ} {l : List ℕ} → lower ≤ low → high ≤ higher → Rising place low high l → Rising place lower higher l
   rising-within h k (over up) = over (le-trans h (le-trans up k))
-  rising-within h k (next {w = w} up r) = next (le-trans h up) (rising-within (le-refl (suc (place w))) k r)
+  rising-within h k (next {w = w} fits up r) = next fits (le-trans h up) (rising-within (le-refl (suc (place w))) k r)
 
   pub rising-append : {low middle high : ℕ} {a b : List ℕ} → Rising place low middle a → Rising place middle high b → Rising place low high (a ++ b)
   rising-append {high = high} (over up) s = rising-within up (le-refl high) s
-  rising-append (next up r) s = next up (rising-append r s)
+  rising-append (next fits up r) s = next fits up (rising-append r s)
 
   -- lists that rise one above another, joined
   pub rising-joined : (f : ℕ → List ℕ) (base limit : ℕ) → ((c : ℕ) → c < limit → Rising place (base + c) (base + suc c) (f c))
@@ -49,12 +52,17 @@ module _ {place : ℕ → ℕ} where
 
   rising-above : {low high : ℕ} {l : List ℕ} → Rising place low high l → (i : ℕ) → i < length l → low ≤ place (getD l i 0)
   rising-above (over up) i h = absurd (not-suc-le-zero h)
-  rising-above (next up r) zero h = up
-  rising-above (next up r) (suc i) h = omega (arith, rising-above r i (le-of-suc-le-suc h))
+  rising-above (next fits up r) zero h = up
+  rising-above (next fits up r) (suc i) h = omega (arith, rising-above r i (le-of-suc-le-suc h))
 
   -- of two entries the later one's place is the higher
   pub rising-at : {low high : ℕ} {l : List ℕ} → Rising place low high l → (i j : ℕ) → i < j → j < length l → place (getD l i 0) < place (getD l j 0)
   rising-at (over up) i j before h = absurd (not-suc-le-zero h)
-  rising-at (next up r) i zero before h = absurd (not-suc-le-zero before)
-  rising-at (next up r) zero (suc j) before h = rising-above r j (le-of-suc-le-suc h)
-  rising-at (next up r) (suc i) (suc j) before h = rising-at r i j (le-of-suc-le-suc before) (le-of-suc-le-suc h)
+  rising-at (next fits up r) i zero before h = absurd (not-suc-le-zero before)
+  rising-at (next fits up r) zero (suc j) before h = rising-above r j (le-of-suc-le-suc h)
+  rising-at (next fits up r) (suc i) (suc j) before h = rising-at r i j (le-of-suc-le-suc before) (le-of-suc-le-suc h)
+
+  pub rising-fits : {low high : ℕ} {l : List ℕ} → Rising place low high l → (i : ℕ) → i < length l → getD l i 0 < 2 ^ 64
+  rising-fits (over up) i h = absurd (not-suc-le-zero h)
+  rising-fits (next fits up r) zero h = fits
+  rising-fits (next fits up r) (suc i) h = rising-fits r i (le-of-suc-le-suc h)
