@@ -55,6 +55,7 @@ network-read s =
       nodeFields = λ n h. front .each n h .lawful;
       constants = λ n h. front .each n h .fits;
       channelFields = rw (front .count) (λ c h. back .each c h .lawful);
+      inBits = λ c h. back .each c h .inBits;
       together = omega (arith, back .sum, back .enough);
       ports = all-served net (eqb-true (faultyNode net) (length (net .nodes)) served);
       held = back .held ∙ sym (back .count);

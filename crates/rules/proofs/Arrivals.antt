@@ -25,7 +25,7 @@ faultless-arrivals net arrivals g i h =
     lowest-is (length arrivals) (arrivalFaulty net arrivals) .without i (omega arith)
 
 -- where no arrival is on channel c, none arrives there
-arriving-none : (ws : List ℕ) (t c : ℕ) → ((i : ℕ) → i < length ws → eqb (channelIn (getD ws i 0)) c ≡ false) → arriving ws t c ≡ []
+pub arriving-none : (ws : List ℕ) (t c : ℕ) → ((i : ℕ) → i < length ws → eqb (channelIn (getD ws i 0)) c ≡ false) → arriving ws t c ≡ []
 unfolding arriving
 arriving-none [] t c without = refl
 arriving-none (w ∷ ws) t c without =

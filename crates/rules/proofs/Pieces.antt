@@ -16,9 +16,9 @@ use Rattle.rules.specs.declared.Node.{Node}
 use Rattle.rules.specs.declared.Channel.{Channel}
 use Rattle.rules.specs.Lists.{total}
 use Rattle.rules.specs.Kinds.{signed}
-use Rattle.rules.specs.Network.{nodeAmong, channelAmong, countsOk, nodeOk, channelOk}
+use Rattle.rules.specs.Network.{InBits, nodeAmong, channelAmong, countsOk, nodeOk, channelOk}
 use Rattle.rules.specs.Table.{fieldAt, read, Header, headerAt, nodeAt, nodePiece, nodesUpTo, channelAt, tokenPiece, tokensUpTo, Channels, withChannel, channelPiece, channelsUpTo}
-use Rattle.rules.proofs.FieldLaws.{token-fits}
+use Rattle.rules.proofs.FieldLaws.{field-below, token-fits}
 use Rattle.rules.proofs.ListLaws.{and-left}
 use Rattle.rules.proofs.LongerLists.{length-more, total-more, pairs-more, entries-more}
 use Rattle.rules.proofs.ReadingLaws.{Gives, read-gives, then-gives, unless-gives, unless-then-gives, piece-then-gives}
@@ -85,10 +85,11 @@ tokens-read s at (suc n) =
 -- a channel that was read behind others: lawful fields, and not too much capacity together with theirs
 record ChannelRead (nodes before : ℕ) (ch : Channel) : Type 0 where
   lawful : channelOk nodes ch ≡ true
+  inBits : InBits ch
   enough : before + ch .capacity ≤ 1024
 
 channel-read : (s : List ℕ) (nodes c at before : ℕ) → Gives (ChannelRead nodes before) (channelPiece s nodes c at before)
-unfolding channelPiece
+unfolding channelPiece channelAt
 channel-read s nodes c at before =
     let ch = channelAt s at in
     piece-then-gives s at 29 ch _
@@ -96,11 +97,17 @@ channel-read s nodes c at before =
     unless-then-gives (channelOk nodes ch) 5 c ch _
     (λ lawful.
     unless-gives (leb (before + ch .capacity) 1024) 6 c ch
-    (λ enough. record { lawful = lawful; enough = leb-true (before + ch .capacity) 1024 enough })))
+    (λ enough.
+    record {
+      lawful = lawful;
+      inBits = record { sort = field-below s at 1; port = field-below s (at + 13) 2 };
+      enough = leb-true (before + ch .capacity) 1024 enough;
+    })))
 
 -- a channel with its tokens: lawful fields, and as many tokens as it says, each in 32 bits
 pub record Filled (nodes : ℕ) (ch : Channel) (tokens : List ℤ) : Type 0 where
   pub lawful : channelOk nodes ch ≡ true
+  pub inBits : InBits ch
   pub initially : TokensRead (ch .initial) tokens
 
 -- channels that were read: as many as were asked for, each lawful with its tokens, and their capacities together at most 1024
@@ -129,7 +136,7 @@ channels-read s nodes (suc n) =
       held = length-more (before .tokens) tokens ∙ ap suc (front .held);
       each =
           pairs-more (Filled nodes) (before .channels) (before .tokens) ch _ tokens _ (front .held ∙ sym (front .count)) (front .each)
-          (record { lawful = new .lawful; initially = filled });
+          (record { lawful = new .lawful; inBits = new .inBits; initially = filled });
       sum = total-more (λ c. c .capacity) (before .channels) ch _ ∙ ap (λ (k : ℕ). k + ch .capacity) (front .sum);
       enough = new .enough;
     }))))

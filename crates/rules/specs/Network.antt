@@ -85,12 +85,18 @@ unfoldable pub portsOk : Network → ℕ → Bool
 portsOk net n =
     every 4 (λ p. eqb (count (length (net .channels)) (serves net n p)) (cond (ltb p (inputs (nodeOf net n .kind))) 1 0))
 
+-- the sort has 1 bit and the port 2; every other field is bounded by its own rule
+pub record InBits (ch : Channel) : Type 0 where
+  pub sort : ch .sort < 2
+  pub port : ch .port < 4
+
 -- a network's own rules: limits 3 to 6, ports 8, and the tokens that its channels' initial counts say
 pub record Obeys (net : Network) : Type 0 where
   pub counts : countsOk (length (net .nodes)) (length (net .channels)) ≡ true
   pub nodeFields : (n : ℕ) → n < length (net .nodes) → nodeOk (nodeOf net n) ≡ true
   pub constants : (n : ℕ) → n < length (net .nodes) → SFits w32 (nodeOf net n .constant)
   pub channelFields : (c : ℕ) → c < length (net .channels) → channelOk (length (net .nodes)) (channelOf net c) ≡ true
+  pub inBits : (c : ℕ) → c < length (net .channels) → InBits (channelOf net c)
   pub together : capacities net (length (net .channels)) ≤ 1024
   pub ports : (n : ℕ) → n < length (net .nodes) → portsOk net n ≡ true
   pub held : length (net .tokens) ≡ length (net .channels)

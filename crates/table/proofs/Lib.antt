@@ -1,0 +1,10 @@
+pub mod Tests
+pub mod LaidLaws
+pub mod NodeTurn
+pub mod Tokens
+pub mod Piece
+pub mod Places
+pub mod Extents
+pub mod ChannelTurn
+pub mod Ports
+pub mod Whole

@@ -1,0 +1,15 @@
+-- `table::check` meets its contract: its answer is the table's. Assumes nothing.
+use Rattle.rules.specs.Refusals.{check}
+use borrow.Author.Needs.{needs}
+use Rattle.table.proofs.check.Statement.{statement}
+use Rattle.table.proofs.check.Tie as tie
+
+read-requires : tie.Need-read-requires
+read-requires c κs = search needs
+
+returns : tie.Need-returns
+unfolding check
+returns c = c .read .ensures .answer
+
+pub check-spec : {M : Type 1} → statement M
+check-spec = tie.close (tie.spec read-requires returns)

@@ -1,0 +1,628 @@
+// Reading a table: from lent bytes to a network, or the first rule that they break and where. The pieces are taken in the paper's order,
+// each read whole and then checked.
+ghost use mathlib.Core.Path.{_≡_};
+ghost use mathlib.Core.Bool.{_&&_, _||_};
+ghost use Prim.Native.Nat.{ℕ, _+_, _*_, _≤_, _<_};
+ghost use lib.ListN.{length, getD};
+ghost use Rattle.rules.specs.Lists.{count, every, lowest};
+ghost use Rattle.rules.specs.Kinds.{inputs as inputsOf, constantOk};
+ghost use Rattle.rules.specs.Network.{countsOk, nodeOk, endOk, channelOk};
+ghost use Rattle.rules.specs.Table.{read as readAs, headerAt, nodeAt, nodePiece, channelAt, channelPiece, endsAt, network};
+ghost use Rattle.rules.specs.Refusals.{check as checkRule, checkedSays};
+ghost use Rattle.table.specs.Laid.{refusedTable, TableOf};
+ghost use Rattle.table.specs.Reads.{headerSays, nodeSays, channelSays, NodesDone, NodesRead, TokensRead, ChannelWithTokens, ChannelsDone, ChannelsRead, servedBy, servedRight, faultyIn};
+use rules::Channel;
+use rules::Checked;
+use rules::Node;
+use rules::Refusal;
+
+// What a header comes to.
+enum Header {
+    Counts { nodes: usize, channels: usize },
+    Refused(Refusal),
+}
+
+// What a node's piece comes to.
+enum NodeRead {
+    Read(Node),
+    Refused(Refusal),
+}
+
+// What a channel's piece comes to.
+enum ChannelRead {
+    Read(Channel),
+    Refused(Refusal),
+}
+
+// Whether all pieces of one sort were read, with the bit behind them, or the first refusal.
+enum Progress {
+    Done { end: usize },
+    Refused(Refusal),
+}
+
+// The nodes' fields, zero behind the last node. Constants are the 32 bits that they were read from.
+pub struct NodeArrays {
+    pub kind: [u32; 32],
+    pub period: [u32; 32],
+    pub deadline: [u32; 32],
+    pub constant: [u32; 32],
+}
+
+// The channels' fields, zero behind the last channel. Each channel has as many places among the tokens as its capacity, one channel after
+// another: its initial tokens as the 32 bits that they were read from, then zeros; and zeros behind the last channel.
+pub struct ChannelArrays {
+    pub sort: [u32; 64],
+    pub writer: [u32; 64],
+    pub reader: [u32; 64],
+    pub port: [u32; 64],
+    pub capacity: [u32; 64],
+    pub initial: [u32; 64],
+    pub tokens: [u32; 1024],
+}
+
+// A network, a field an array.
+pub struct Network {
+    pub nodes: usize,
+    pub channels: usize,
+    pub node: NodeArrays,
+    pub channel: ChannelArrays,
+}
+
+// What a table comes to: the check's answer, and the network, all zero on a refusal.
+pub struct Table {
+    pub answer: Checked,
+    pub network: Network,
+}
+
+// The nodes that were read so far.
+struct Nodes {
+    progress: Progress,
+    arrays: NodeArrays,
+}
+
+// The channels that were read so far.
+struct Channels {
+    progress: Progress,
+    arrays: ChannelArrays,
+}
+
+fn wide(x: u32) -> usize
+    ensures { λ r. ⌜ r ≡ x ⌝ }
+{
+    x as usize
+}
+
+// Both tests pass.
+fn both(a: bool, b: bool) -> bool
+    ensures { λ r. ⌜ r ≡ (a && b) ⌝ }
+{
+    if a {
+        return b;
+    }
+    false
+}
+
+// One of the tests passes.
+fn either(a: bool, b: bool) -> bool
+    ensures { λ r. ⌜ r ≡ (a || b) ⌝ }
+{
+    if a {
+        return true;
+    }
+    b
+}
+
+// ---- The header
+
+fn counts_ok(nodes: usize, channels: usize) -> bool
+    ensures { λ r. ⌜ r ≡ countsOk nodes channels ⌝ }
+{
+    both(both(1 <= nodes, nodes <= 32), channels <= 64)
+}
+
+fn read_header(s: &[u8]) -> Header
+    ensures { λ r. ⌜ headerSays r ≡ headerAt (now (s .entry)) ⌝ }
+{
+    if fields::there(s, 0, 24) {
+        if fields::field(s, 0, 4) == 1 {
+            let nodes = wide(fields::field(s, 4, 6));
+            let channels = wide(fields::field(s, 10, 7));
+            if counts_ok(nodes, channels) {
+                if fields::field(s, 17, 7) == 0 {
+                    return Header::Counts { nodes, channels };
+                }
+            }
+            return Header::Refused(Refusal::Counts);
+        }
+        return Header::Refused(Refusal::Version);
+    }
+    Header::Refused(Refusal::BitsEnd(0))
+}
+
+// ---- Nodes
+
+// Whether a node of this kind may have this constant.
+fn constant_ok(kind: u32, constant: i32) -> bool
+    ensures { λ r. ⌜ r ≡ constantOk kind constant ⌝ }
+{
+    if kind == 0 {
+        return true;
+    }
+    if kind == 2 {
+        return true;
+    }
+    if kind == 7 {
+        return constant != 0;
+    }
+    constant == 0
+}
+
+fn node_ok(n: Node) -> bool
+    ensures { λ r. ⌜ r ≡ nodeOk n ⌝ }
+{
+    let period = both(1 <= n.period, n.period <= 65535);
+    let deadline = both(1 <= n.deadline, n.deadline <= n.period);
+    both(
+        both(both(n.kind < 12, period), deadline),
+        constant_ok(n.kind, n.constant),
+    )
+}
+
+fn node_at(s: &[u8], at: usize) -> Node
+    requires { ⌜ (at + 69 ≤ 8 * length (now s)) × (at < 65536) ⌝ }
+    ensures { λ r. ⌜ r ≡ nodeAt (now (s .entry)) at ⌝ }
+{
+    let kind = fields::field(s, at, 5);
+    let period = fields::field(s, at + 5, 16);
+    let deadline = fields::field(s, at + 21, 16);
+    let constant = fields::signed(fields::field(s, at + 37, 32));
+    Node {
+        kind,
+        period,
+        deadline,
+        constant,
+    }
+}
+
+fn node_piece(s: &[u8], n: usize) -> NodeRead
+    requires { ⌜ n < 32 ⌝ }
+    ensures { λ r. ⌜ nodeSays r ≡ nodePiece (now (s .entry)) n ⌝ }
+{
+    let at = 24 + 69 * n;
+    if fields::there(s, at, 69) {
+        let node = node_at(s, at);
+        if node_ok(node) {
+            return NodeRead::Read(node);
+        }
+        return NodeRead::Refused(Refusal::NodeField(n));
+    }
+    NodeRead::Refused(Refusal::BitsEnd(at))
+}
+
+// The first `count` nodes.
+fn read_nodes(s: &[u8], count: usize) -> Nodes
+    requires { ⌜ count ≤ 32 ⌝ }
+    ensures { λ r. ⌜ NodesRead (now (s .entry)) count (r .progress) (r .arrays) ⌝ }
+{
+    let mut kind = [0u32; 32];
+    let mut period = [0u32; 32];
+    let mut deadline = [0u32; 32];
+    let mut constant = [0u32; 32];
+    let mut n = 0;
+    while n < count {
+        let p = node_piece(s, n);
+        match p {
+            NodeRead::Refused(why) => {
+                return Nodes {
+                    progress: Progress::Refused(why),
+                    arrays: NodeArrays {
+                        kind,
+                        period,
+                        deadline,
+                        constant,
+                    },
+                };
+            }
+            NodeRead::Read(node) => {
+                kind[n] = node.kind;
+                period[n] = node.period;
+                deadline[n] = node.deadline;
+                constant[n] = fields::pattern(node.constant);
+            }
+        }
+        n += 1;
+    }
+    Nodes {
+        progress: Progress::Done {
+            end: 24 + 69 * count,
+        },
+        arrays: NodeArrays {
+            kind,
+            period,
+            deadline,
+            constant,
+        },
+    }
+}
+
+// ---- Channels
+
+// Whether a channel's end is a node or the outside.
+fn end_ok(nodes: usize, n: u32) -> bool
+    ensures { λ r. ⌜ r ≡ endOk nodes n ⌝ }
+{
+    either(wide(n) < nodes, n == 63)
+}
+
+fn channel_ok(nodes: usize, ch: Channel) -> bool
+    ensures { λ r. ⌜ r ≡ channelOk nodes ch ⌝ }
+{
+    let ends = both(end_ok(nodes, ch.writer), end_ok(nodes, ch.reader));
+    let capacity = both(1 <= ch.capacity, ch.capacity <= 64);
+    let register = either(ch.sort != 1, both(ch.capacity == 1, ch.initial == 1));
+    let held = both(
+        both(both(ch.sort != 1, ch.port == 0), ch.capacity == 1),
+        ch.initial == 0,
+    );
+    let out = either(ch.reader != 63, held);
+    let through = both(ch.writer == 63, ch.reader == 63);
+    both(
+        both(
+            both(
+                both(both(ends, capacity), ch.initial <= ch.capacity),
+                register,
+            ),
+            out,
+        ),
+        !through,
+    )
+}
+
+fn channel_at(s: &[u8], at: usize) -> Channel
+    requires { ⌜ (at + 29 ≤ 8 * length (now s)) × (at < 65536) ⌝ }
+    ensures { λ r. ⌜ r ≡ channelAt (now (s .entry)) at ⌝ }
+{
+    let sort = fields::field(s, at, 1);
+    let writer = fields::field(s, at + 1, 6);
+    let reader = fields::field(s, at + 7, 6);
+    let port = fields::field(s, at + 13, 2);
+    let capacity = fields::field(s, at + 15, 7);
+    let initial = fields::field(s, at + 22, 7);
+    Channel {
+        sort,
+        writer,
+        reader,
+        port,
+        capacity,
+        initial,
+    }
+}
+
+// Channel `c`, which stands at bit `at` behind channels whose capacities together are `together`.
+fn channel_piece(s: &[u8], nodes: usize, c: usize, at: usize, together: usize) -> ChannelRead
+    requires { ⌜ (at < 65536) × (together ≤ 1024) ⌝ }
+    ensures { λ r. ⌜ channelSays r ≡ channelPiece (now (s .entry)) nodes c at together ⌝ }
+{
+    if fields::there(s, at, 29) {
+        let ch = channel_at(s, at);
+        if channel_ok(nodes, ch) {
+            if together + wide(ch.capacity) <= 1024 {
+                return ChannelRead::Read(ch);
+            }
+            return ChannelRead::Refused(Refusal::Capacities(c));
+        }
+        return ChannelRead::Refused(Refusal::ChannelField(c));
+    }
+    ChannelRead::Refused(Refusal::BitsEnd(at))
+}
+
+// The first `count` tokens that stand at bit `at`, stored from place `base` on.
+fn read_tokens(s: &[u8], at: usize, count: usize, tokens: &mut [u32; 1024], base: usize) -> Progress
+    requires { ⌜ (at < 65536) × (base + count ≤ 1024) × (length (now tokens) ≡ 1024) ⌝ }
+    ensures { λ r. ⌜ TokensRead (now (s .entry)) at count (now (tokens .entry)) base r (now (tokens .exit)) ⌝ }
+{
+    let mut i = 0;
+    while i < count {
+        let place = at + 32 * i;
+        if fields::there(s, place, 32) {
+            tokens[base + i] = fields::field(s, place, 32);
+        } else {
+            return Progress::Refused(Refusal::BitsEnd(place));
+        }
+        i += 1;
+    }
+    Progress::Done {
+        end: at + 32 * count,
+    }
+}
+
+// Channel `c`, which stands at bit `at` behind channels whose capacities together are `together`, with its tokens, stored from place
+// `together` on.
+fn read_channel(
+    s: &[u8],
+    nodes: usize,
+    c: usize,
+    at: usize,
+    together: usize,
+    tokens: &mut [u32; 1024],
+) -> ChannelRead
+    requires { ⌜ (at < 65000) × (together ≤ 1024) × (length (now tokens) ≡ 1024) ⌝ }
+    ensures { λ r. ⌜ ChannelWithTokens (now (s .entry)) nodes c at together (now (tokens .entry)) r (now (tokens .exit)) ⌝ }
+{
+    let p = channel_piece(s, nodes, c, at, together);
+    match p {
+        ChannelRead::Refused(why) => ChannelRead::Refused(why),
+        ChannelRead::Read(ch) => {
+            let t = read_tokens(s, at + 29, wide(ch.initial), tokens, together);
+            match t {
+                Progress::Refused(why) => ChannelRead::Refused(why),
+                Progress::Done { end: _ } => ChannelRead::Read(ch),
+            }
+        }
+    }
+}
+
+// The first `count` channels, behind `nodes` nodes.
+fn read_channels(s: &[u8], nodes: usize, count: usize) -> Channels
+    requires { ⌜ (nodes ≤ 32) × (count ≤ 64) ⌝ }
+    ensures { λ r. ⌜ ChannelsRead (now (s .entry)) nodes count (r .progress) (r .arrays) ⌝ }
+{
+    let mut sort = [0u32; 64];
+    let mut writer = [0u32; 64];
+    let mut reader = [0u32; 64];
+    let mut port = [0u32; 64];
+    let mut capacity = [0u32; 64];
+    let mut initial = [0u32; 64];
+    let mut tokens = [0u32; 1024];
+    let mut at = 24 + 69 * nodes;
+    let mut together = 0;
+    let mut c = 0;
+    while c < count {
+        let p = read_channel(s, nodes, c, at, together, &mut tokens);
+        match p {
+            ChannelRead::Refused(why) => {
+                return Channels {
+                    progress: Progress::Refused(why),
+                    arrays: ChannelArrays {
+                        sort,
+                        writer,
+                        reader,
+                        port,
+                        capacity,
+                        initial,
+                        tokens,
+                    },
+                };
+            }
+            ChannelRead::Read(ch) => {
+                sort[c] = ch.sort;
+                writer[c] = ch.writer;
+                reader[c] = ch.reader;
+                port[c] = ch.port;
+                capacity[c] = ch.capacity;
+                initial[c] = ch.initial;
+                at = at + 29 + 32 * wide(ch.initial);
+                together = together + wide(ch.capacity);
+            }
+        }
+        c += 1;
+    }
+    Channels {
+        progress: Progress::Done { end: at },
+        arrays: ChannelArrays {
+            sort,
+            writer,
+            reader,
+            port,
+            capacity,
+            initial,
+            tokens,
+        },
+    }
+}
+
+// ---- The end, and the ports
+
+// Zero bits to the end of the byte, then nothing.
+fn ends(s: &[u8], at: usize) -> bool
+    requires { ⌜ at < 65536 ⌝ }
+    ensures { λ r. ⌜ r ≡ endsAt (now (s .entry)) at ⌝ }
+{
+    let bytes = (at + 7) / 8;
+    if s.len() == bytes {
+        return fields::field(s, at, 8 * bytes - at) == 0;
+    }
+    false
+}
+
+// How many inputs each kind has, kind 0 first.
+const INPUTS: [u32; 12] = [0, 1, 1, 2, 2, 2, 2, 1, 3, 2, 1, 1];
+
+fn inputs(kind: u32) -> u32
+    requires { ⌜ kind < 12 ⌝ }
+    ensures { λ r. ⌜ r ≡ inputsOf kind ⌝ }
+{
+    INPUTS[wide(kind)]
+}
+
+// How many of the first `channels` channels serve port `p` of node `n`.
+fn served(reader: &[u32; 64], port: &[u32; 64], channels: usize, n: usize, p: u32) -> usize
+    requires { ⌜ (channels ≤ 64) × (n < 32) ⌝ }
+    ensures { λ r. ⌜ r ≡ count channels (servedBy (now (reader .entry)) (now (port .entry)) n p) ⌝ }
+{
+    let mut found = 0;
+    let mut c = 0;
+    while c < channels {
+        if wide(reader[c]) == n {
+            if port[c] == p {
+                found += 1;
+            }
+        }
+        c += 1;
+    }
+    found
+}
+
+// Whether port `p` of node `n`, which has so many inputs, is served as it should be.
+fn port_ok(
+    reader: &[u32; 64],
+    port: &[u32; 64],
+    channels: usize,
+    n: usize,
+    p: u32,
+    inputs: u32,
+) -> bool
+    requires { ⌜ (channels ≤ 64) × (n < 32) ⌝ }
+    ensures { λ r. ⌜ r ≡ servedRight (now (reader .entry)) (now (port .entry)) channels n inputs p ⌝ }
+{
+    let found = served(reader, port, channels, n, p);
+    if p < inputs {
+        return found == 1;
+    }
+    found == 0
+}
+
+// Whether every port of node `n` is served as it should be.
+fn ports_ok(reader: &[u32; 64], port: &[u32; 64], channels: usize, n: usize, inputs: u32) -> bool
+    requires { ⌜ (channels ≤ 64) × (n < 32) ⌝ }
+    ensures { λ r. ⌜ r ≡ every 4 (servedRight (now (reader .entry)) (now (port .entry)) channels n inputs) ⌝ }
+{
+    let low = both(
+        port_ok(reader, port, channels, n, 0, inputs),
+        port_ok(reader, port, channels, n, 1, inputs),
+    );
+    both(
+        both(low, port_ok(reader, port, channels, n, 2, inputs)),
+        port_ok(reader, port, channels, n, 3, inputs),
+    )
+}
+
+// The lowest node with a port that is not served as it should be, or the node count.
+fn faulty_node(
+    kind: &[u32; 32],
+    reader: &[u32; 64],
+    port: &[u32; 64],
+    nodes: usize,
+    channels: usize,
+) -> usize
+    requires { ⌜ (nodes ≤ 32) × (channels ≤ 64) × ((n : ℕ) → n < nodes → getD (now kind) n 0 < 12) ⌝ }
+    ensures { λ r. ⌜ r ≡ lowest nodes (faultyIn (now (kind .entry)) (now (reader .entry)) (now (port .entry)) channels) ⌝ }
+{
+    let mut n = 0;
+    while n < nodes {
+        if ports_ok(reader, port, channels, n, inputs(kind[n])) {
+            n += 1;
+        } else {
+            return n;
+        }
+    }
+    n
+}
+
+// ---- The whole table
+
+// A refusal, with a network that is all zero.
+fn refused(why: Refusal) -> Table
+    ensures { λ r. ⌜ r ≡ refusedTable why ⌝ }
+{
+    Table {
+        answer: Checked::Refused(why),
+        network: Network {
+            nodes: 0,
+            channels: 0,
+            node: NodeArrays {
+                kind: [0u32; 32],
+                period: [0u32; 32],
+                deadline: [0u32; 32],
+                constant: [0u32; 32],
+            },
+            channel: ChannelArrays {
+                sort: [0u32; 64],
+                writer: [0u32; 64],
+                reader: [0u32; 64],
+                port: [0u32; 64],
+                capacity: [0u32; 64],
+                initial: [0u32; 64],
+                tokens: [0u32; 1024],
+            },
+        },
+    }
+}
+
+// The end of the table and the ports, once all pieces are read.
+fn read_end(
+    s: &[u8],
+    nodes: usize,
+    channels: usize,
+    end: usize,
+    node: NodeArrays,
+    channel: ChannelArrays,
+) -> Table
+    requires { ⌜ (headerAt (now s) ≡ readAs (record { nodes = nodes; channels = channels })) × NodesDone (now s) nodes node × ChannelsDone (now s) nodes channels end channel ⌝ }
+    ensures { λ r. ⌜ TableOf (network (now (s .entry))) r ⌝ }
+{
+    if ends(s, end) {
+        let kind = node.kind;
+        let reader = channel.reader;
+        let port = channel.port;
+        let faulty = faulty_node(&kind, &reader, &port, nodes, channels);
+        if faulty == nodes {
+            return Table {
+                answer: Checked::Taken { nodes, channels },
+                network: Network {
+                    nodes,
+                    channels,
+                    node,
+                    channel,
+                },
+            };
+        }
+        return refused(Refusal::Ports(faulty));
+    }
+    refused(Refusal::Leftover)
+}
+
+// The channels, and what follows them, once the nodes are read.
+fn read_rest(s: &[u8], nodes: usize, channels: usize, node: NodeArrays) -> Table
+    requires { ⌜ (headerAt (now s) ≡ readAs (record { nodes = nodes; channels = channels })) × NodesDone (now s) nodes node ⌝ }
+    ensures { λ r. ⌜ TableOf (network (now (s .entry))) r ⌝ }
+{
+    let cs = read_channels(s, nodes, channels);
+    let progress = cs.progress;
+    match progress {
+        Progress::Refused(why) => refused(why),
+        Progress::Done { end } => {
+            let channel = cs.arrays;
+            read_end(s, nodes, channels, end, node, channel)
+        }
+    }
+}
+
+// The network that a table's bytes say, or the first refusal.
+pub fn read(s: &[u8]) -> Table
+    ensures { λ r. ⌜ TableOf (network (now (s .entry))) r ⌝ }
+{
+    let h = read_header(s);
+    match h {
+        Header::Refused(why) => refused(why),
+        Header::Counts { nodes, channels } => {
+            let ns = read_nodes(s, nodes);
+            let progress = ns.progress;
+            match progress {
+                Progress::Refused(why) => refused(why),
+                Progress::Done { end: _ } => {
+                    let node = ns.arrays;
+                    read_rest(s, nodes, channels, node)
+                }
+            }
+        }
+    }
+}
+
+// The first entry point: the check of a table.
+pub fn check(s: &[u8]) -> Checked
+    ensures { λ r. ⌜ checkedSays r ≡ checkRule (now (s .entry)) ⌝ }
+{
+    let t = read(s);
+    t.answer
+}

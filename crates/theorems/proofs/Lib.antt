@@ -1,0 +1,17 @@
+pub mod Ends
+pub mod Front
+pub mod Locality
+pub mod Cells
+pub mod Brought
+pub mod WriteTurns
+pub mod ReadTurns
+pub mod AnyOrder
+pub mod Inside
+pub mod Part
+pub mod Stops
+pub mod Extension
+pub mod Promise
+pub mod Told
+pub mod AllRuns
+pub mod InstanceLaws
+pub mod Instances

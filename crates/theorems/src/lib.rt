@@ -1,0 +1,1 @@
+// No code: what is true of the rules whatever the code, in specs/ and proofs/.
