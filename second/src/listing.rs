@@ -18,7 +18,7 @@ pub struct Framed<'a> {
 }
 
 /// Bytes as a number, most significant first.
-fn number(bytes: &[u8]) -> u64 {
+pub fn number(bytes: &[u8]) -> u64 {
     bytes.iter().fold(0, |value, byte| value << 8 | u64::from(*byte))
 }
 

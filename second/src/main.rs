@@ -1,5 +1,7 @@
 //! The second program: document 01's runtime once more, to compare listings with.
 
+mod bench;
+mod bench_cases;
 mod draft;
 mod edges;
 mod listing;
@@ -12,7 +14,8 @@ mod tests;
 use std::io::{self, Read, Write};
 use std::process::ExitCode;
 
-const USAGE: &str = "use: second listing | listings | make SEED COUNT | edges | count | tables | tables-of";
+const USAGE: &str =
+    "use: second listing | listings | make SEED COUNT | edges | count | tables | tables-of | bench | bench-cases";
 
 fn main() -> ExitCode {
     let words: Vec<String> = std::env::args().skip(1).collect();
@@ -41,6 +44,11 @@ fn command(words: &[&str]) -> Result<Vec<u8>, String> {
             let file = read(u64::MAX)?;
             let framed = listing::split(&file)?.into_iter().filter_map(listing::frame);
             Ok(listing::join(&framed.map(|framed| framed.table).collect::<Vec<_>>()))
+        }
+        ["bench"] => each_input(bench::text),
+        ["bench-cases"] => {
+            let cases: Vec<Vec<u8>> = bench_cases::cases().0.into_iter().map(|(_, case)| case).collect();
+            Ok(listing::join(&cases))
         }
         ["make", seed, count] => {
             let number = |word: &str| word.parse::<u64>().map_err(|_| format!("not a number: {word}"));

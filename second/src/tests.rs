@@ -1,5 +1,7 @@
 //! Document 01's cases, the edges, and the run compared with a direct one.
 
+use crate::bench;
+use crate::bench_cases::cases;
 use crate::draft::{arrival, input, node, out, queue, register, Draft};
 use crate::edges::{case_l, edges, filling, queue_read, register_read, sweep, P_TABLE};
 use crate::listing::{counts, frame, join, listing, outcome, split, table_line};
@@ -80,6 +82,36 @@ fn refusal_9() {
     }
     assert_eq!(run(&read, LONGEST_HORIZON, &[arrival(1, 0, 0)], &mut list), refused(10, 0));
     assert_eq!(list, [5; 3]);
+}
+
+#[test]
+fn bench_cases_as_said() {
+    for (i, (said, case)) in cases().0.iter().enumerate() {
+        assert_eq!(*said, bench::text(case), "case {i}");
+    }
+}
+
+#[test]
+fn bench_has_refusal_9() {
+    let case = bench::case(2, LONGEST_HORIZON + 1, &register_read(10).bytes(), &[]);
+    assert_eq!(bench::text(&case), "refused 9 0\n7\n7\n");
+    let horizon = (LONGEST_HORIZON as u32 + 1).to_be_bytes();
+    let stands = |(said, case): &(String, Vec<u8>)| said.starts_with("refused 9 0\n") && case[2..6] == horizon;
+    assert!(cases().0.iter().any(stands));
+}
+
+#[test]
+fn every_number_stands_in_the_bench() {
+    let starts = |start: &str| cases().0.iter().any(|(said, _)| said.starts_with(start));
+    for number in 1..=10 {
+        assert!(starts(&format!("refused {number} ")), "no refusal {number}");
+    }
+    for start in ["end ", "stop 11 ", "stop 12 ", "badly framed\n"] {
+        assert!(starts(start), "no {start}");
+    }
+    // The program reads so many bytes.
+    let file = join(&cases().0.into_iter().map(|(_, case)| case).collect::<Vec<_>>());
+    assert!(file.len() <= 65_536);
 }
 
 #[test]

@@ -1,0 +1,116 @@
+-- What a run comes to by how far its checks get: the table's refusal, the horizon's, the lowest faulty arrival's, and else its instants.
+-- Assumes nothing.
+use Prim.Native.Nat.{ℕ, suc, _≤_, _<_}
+use native.Mathlib.Omega.{arith}
+use mathlib.Core.Bool.{true}
+use mathlib.Core.List.{List}
+use mathlib.Core.Path.{_≡_, refl, sym, ap, _∙_}
+use lib.Dec.{eqb, ltb}
+use lib.ListN.{length, getD}
+use borrow.Author.Tests.{ltb-true, le-leb, lt-leb, eq-eqb, ne-eqb}
+use Rattle.rules.specs.declared.Refusal.{Refusal}
+use Rattle.rules.specs.declared.Checked.{Checked}
+use Rattle.rules.specs.declared.Ran.{Ran}
+use Rattle.rules.specs.Lists.{lowest}
+use Rattle.rules.specs.Network.{Network}
+use Rattle.rules.specs.Instant.{channelIn, reached}
+use Rattle.rules.specs.Table.{Reading, refusal, read, network}
+use Rattle.rules.specs.Refusals.{refused, outcome, run, arrivalFaulty, faultyArrival, numberOf, placeOf, checkSays, checkedSays}
+use Rattle.rules.proofs.ListLaws.{by-test, lowest-is}
+use Rattle.rules.proofs.Arrivals.{Faultless, faultless-arrivals}
+use Rattle.rules.proofs.Accepted.{accepted}
+use Rattle.table.specs.declared.Table.{Table}
+use Rattle.table.specs.Laid.{laid, TableOf}
+use Rattle.engine.specs.declared.Machine.{Machine}
+use Rattle.engine.specs.Setup.{faultyBy}
+use Rattle.engine.specs.Steps.{RunOf, Starts, Lawful, runRead}
+use Rattle.engine.proofs.WroteLaws.{lowest-ext}
+use Rattle.engine.proofs.RefusalNumbers.{network-numbered}
+
+-- a refusal leaves the list as it was
+refused-run : (why : Refusal) (list : List ℕ) → RunOf (refused (numberOf why) (placeOf why)) list list (Ran.Refused why)
+refused-run why list = record { answer = refl; list = refl }
+
+-- a run of a network that was read is refused where its horizon is too late
+pub late-refused : (net : Network) (horizon : ℕ) (arrivals list : List ℕ) → 16777215 < horizon → RunOf (runRead net horizon arrivals (length list)) list list (Ran.Refused Refusal.Horizon)
+unfolding runRead
+late-refused net horizon arrivals list late = rw (lt-leb horizon 16777215 late) (refused-run Refusal.Horizon list)
+
+-- where a machine stands for a network, the lowest faulty arrival by its array of writers is the network's
+module _ {net : Network} {m : Machine} (starts : Starts net m) (arrivals : List ℕ) {faulty : ℕ} (found : faulty ≡ lowest (length arrivals) (faultyBy (m .writer) (m .channels) arrivals)) where
+  faulty-same : (i : ℕ) → faultyBy (m .writer) (m .channels) arrivals i ≡ arrivalFaulty net arrivals i
+  unfolding faultyBy arrivalFaulty
+  faulty-same i =
+      let on = channelIn (getD arrivals i 0) in
+      by-test (ltb on (length (net .channels)))
+      (λ e. rw (starts .channels, e, starts .wired .writer on (ltb-true on (length (net .channels)) e)))
+      (λ e. rw (starts .channels, e))
+
+  faulty-lowest : faulty ≡ faultyArrival net arrivals
+  unfolding faultyArrival
+  faulty-lowest = found ∙ lowest-ext (length arrivals) _ _ (λ i h. faulty-same i)
+
+  none-faulty : length arrivals ≤ faulty → eqb (faultyArrival net arrivals) (length arrivals) ≡ true
+  unfolding faultyArrival
+  none-faulty all =
+      let most = lowest-is (length arrivals) (arrivalFaulty net arrivals) .most in
+      eq-eqb (faultyArrival net arrivals) (length arrivals) (omega (arith, faulty-lowest))
+
+  pub arrivals-faultless : length arrivals ≤ faulty → Faultless net arrivals
+  arrivals-faultless all = faultless-arrivals net arrivals (none-faulty all)
+
+  -- within the horizon, a run is refused at a faulty arrival, and goes through its instants where there is none
+  module _ (horizon : ℕ) (list : List ℕ) (soon : horizon ≤ 16777215) where
+    pub faulty-refused : faulty < length arrivals → RunOf (runRead net horizon arrivals (length list)) list list (Ran.Refused (Refusal.Arrival faulty))
+    unfolding runRead
+    faulty-refused some =
+        rw (le-leb horizon 16777215 soon, ← faulty-lowest, ne-eqb faulty (length arrivals) (λ e. omega arith)) (refused-run (Refusal.Arrival faulty) list)
+
+    pub through-instants : length arrivals ≤ faulty → {after : List ℕ} {r : Ran} → RunOf (outcome (reached net arrivals (length list) (suc horizon))) list after r → RunOf (runRead net horizon arrivals (length list)) list after r
+    unfolding runRead
+    through-instants all ran = rw (le-leb horizon 16777215 soon, none-faulty all) ran
+
+-- a table that is taken was read as a network, of which it has the arrays
+pub record Taken (s : List ℕ) (r : Table) : Type 0 where
+  pub lawful : Lawful (r .network)
+  pub reads : network s ≡ read (lawful .net)
+
+-- no refusal has the number 0
+refusal-not-zero : (why : Refusal) → numberOf why ≡ 0 → ⊥
+refusal-not-zero (Refusal.BitsEnd place) e = omega arith
+refusal-not-zero Refusal.Version e = omega arith
+refusal-not-zero Refusal.Counts e = omega arith
+refusal-not-zero (Refusal.NodeField node) e = omega arith
+refusal-not-zero (Refusal.ChannelField channel) e = omega arith
+refusal-not-zero (Refusal.Capacities channel) e = omega arith
+refusal-not-zero Refusal.Leftover e = omega arith
+refusal-not-zero (Refusal.Ports node) e = omega arith
+refusal-not-zero Refusal.Horizon e = omega arith
+refusal-not-zero (Refusal.Arrival index) e = omega arith
+
+module _ (s : List ℕ) {r : Table} (got : TableOf (network s) r) where
+  table-refused : {why : Refusal} → r .answer ≡ Checked.Refused why → network s ≡ refusal (numberOf why) (placeOf why)
+  table-refused {why} is = by-reading (network s) (ap checkedSays (sym is) ∙ got .answer)
+    where
+      by-reading : (v : Reading Network) → checkedSays (Checked.Refused why) ≡ checkSays v → v ≡ refusal (numberOf why) (placeOf why)
+      by-reading (refusal number place) e = λ i. refusal (sym e i .number) (sym e i .place)
+      by-reading (read net) e = absurd (refusal-not-zero why (ap (λ says. says .number) e))
+
+  pub table-taken : {nodes channels : ℕ} → r .answer ≡ Checked.Taken nodes channels → Taken s r
+  table-taken {nodes} {channels} is = by-reading (network s) refl
+    where
+      by-reading : (v : Reading Network) → network s ≡ v → Taken s r
+      by-reading (refusal number place) e =
+          let none : 0 ≡ number = ap (λ says. says .number) (ap checkedSays (sym is) ∙ got .answer ∙ ap checkSays e) in
+          absurd (omega (arith, ltb-true 0 number (network-numbered s .from number place e)))
+      by-reading (read net) e = record { lawful = record { net = net; obeys = accepted s net e; from = got .network ∙ ap laid e }; reads = e }
+
+  -- a run of the table is refused as the table is, and else is the run of the network
+  module _ (horizon : ℕ) (arrivals list : List ℕ) where
+    pub refused-by-table : {why : Refusal} → r .answer ≡ Checked.Refused why → RunOf (run s horizon arrivals (length list)) list list (Ran.Refused why)
+    unfolding run
+    refused-by-table {why} is = rw (table-refused is) (refused-run why list)
+
+    pub run-as-read : (taken : Taken s r) {after : List ℕ} {ran : Ran} → RunOf (runRead (taken .lawful .net) horizon arrivals (length list)) list after ran → RunOf (run s horizon arrivals (length list)) list after ran
+    unfolding run runRead
+    run-as-read taken ran = rw (taken .reads) ran

@@ -1,0 +1,123 @@
+-- How far a run over the instants at which something happens has come before one of them: at the start, what it takes to do the instant, how
+-- far the run comes by it, and what the run comes to past the horizon. Assumes nothing.
+use Prim.Native.Nat.{ℕ, suc, _-_, _≤_, _<_, _^_, zero-le}
+use native.Mathlib.Omega.{arith}
+use mathlib.Core.Bool.{true-or}
+use mathlib.Core.List.{List, [], _++_}
+use mathlib.Core.Path.{_≡_, refl}
+use lib.Dec.{ltb}
+use lib.ListN.{length, getD, drop, length-append, length-drop}
+use borrow.Author.Tests.{ltb-true}
+use Rattle.rules.specs.declared.Ran.{Ran}
+use Rattle.rules.specs.Network.{Network, Obeys}
+use Rattle.rules.specs.Instant.{State, channelIn, Step, instant, initial, running, stepped, onward, reached}
+use Rattle.rules.specs.Refusals.{arrivalFaulty, outcome}
+use Rattle.rules.proofs.ListLaws.{by-test, true-or-false}
+use Rattle.rules.proofs.Reach.{sound}
+use Rattle.rules.proofs.Arrivals.{Faultless}
+use Rattle.engine.specs.declared.Machine.{Machine}
+use Rattle.engine.specs.Rings.{Cells, Rings}
+use Rattle.engine.specs.Nodes.{Pendings, Sized}
+use Rattle.engine.specs.Represents.{Represents, Cursor}
+use Rattle.engine.specs.Steps.{Able, OnChannels, Before, RunOf, shapeOf, wiresOf, waysOf, startCells, startPendings, Starts, Startable}
+
+-- a run of a network before instant t: it has stood still since the last instant done, its words are the first ones of the list, and the
+-- arrays stand for its state
+pub record Progress (net : Network) (m : Machine) (horizon : ℕ) (arrivals before list : List ℕ) (x : Cells) (p : Pendings) (t from count : ℕ) : Type 0 where
+  pub words : List ℕ
+  pub st : State
+  pub done : ℕ
+  pub ends : done ≤ suc horizon
+  pub still : (i : ℕ) → done ≤ i → i ≤ t → reached net arrivals (length before) i ≡ running words st
+  pub since : done ≤ t
+  pub represents : Represents net (shapeOf m) t st x p
+  pub cursor : Cursor arrivals from t
+  pub sized : Sized p
+  pub many : count ≡ length words
+  pub fits : count ≤ length before
+  pub listed : list ≡ words ++ drop count before
+
+-- a network whose run a machine is to do, up to a horizon and with these arrivals
+pub record Runs (net : Network) (m : Machine) (horizon : ℕ) (arrivals : List ℕ) : Type 0 where
+  pub obeys : Obeys net
+  pub faultless : Faultless net arrivals
+  pub starts : Starts net m
+  pub early : horizon < 2 ^ 24
+
+-- a machine that can run does that of a network
+pub startable-runs : {m : Machine} {horizon : ℕ} {arrivals : List ℕ} (pre : (horizon < 2 ^ 24) × Startable m arrivals) → Runs (pre .1 .net) m horizon arrivals
+startable-runs pre = record { obeys = pre .1 .obeys; faultless = pre .1 .faultless; starts = pre .1 .starts; early = pre .0 }
+
+-- an arrival that is not faulty is on a channel
+faultless-on : (net : Network) (arrivals : List ℕ) → Faultless net arrivals → OnChannels (length (net .channels)) arrivals
+unfolding arrivalFaulty
+faultless-on net arrivals faultless i h =
+    by-test (ltb (channelIn (getD arrivals i 0)) (length (net .channels))) (ltb-true (channelIn (getD arrivals i 0)) (length (net .channels)))
+    (λ e. true-or-false refl (simp (e, true-or) at (faultless i h)))
+
+-- before the first instant
+pub progress-start : {net : Network} {m : Machine} {horizon : ℕ} {arrivals : List ℕ} (before : List ℕ) → Runs net m horizon arrivals
+    → Progress net m horizon arrivals before before (startCells m) startPendings 0 0 0
+unfolding reached
+progress-start {net} before runs =
+    record {
+      words = [];
+      st = initial net;
+      done = 0;
+      ends = zero-le;
+      still = λ i low high.
+          let none : i ≡ 0 = omega arith in
+          rw none;
+      since = zero-le;
+      represents = runs .starts .represents;
+      cursor = record { within = zero-le; passed = λ i h. absurd (omega arith); ahead = λ i low h. zero-le };
+      sized = record { nexts = refl; dues = refl; values = refl };
+      many = refl;
+      fits = zero-le;
+      listed = refl;
+    }
+
+module _ {net : Network} {m : Machine} {horizon : ℕ} {arrivals before list : List ℕ} {x : Cells} {p : Pendings} {t from count : ℕ}
+    (runs : Runs net m horizon arrivals) (so-far : Progress net m horizon arrivals before list x p t from count) where
+  pub same-room : length list ≡ length before
+  same-room = rw (so-far .listed, length-append, length-drop) (omega (arith, so-far .many, so-far .fits))
+
+  here : reached net arrivals (length before) t ≡ running (so-far .words) (so-far .st)
+  here = so-far .still t (so-far .since) (omega arith)
+
+  pub before-instant : t ≤ horizon → Before net arrivals (shapeOf m) (wiresOf m) (waysOf m) from t (so-far .st) x p
+  before-instant now =
+      record {
+        obeys = runs .obeys;
+        faultless = runs .faultless;
+        early = omega (arith, runs .early);
+        sound = sound net arrivals (length before) t (so-far .words) (so-far .st) (runs .obeys) here;
+        wired = runs .starts .wired;
+        represents = so-far .represents;
+        cursor = so-far .cursor;
+      }
+
+  -- the instant can be done
+  pub instant-can : t ≤ horizon
+      → Rings (shapeOf m) x × Able (m .nodes) (m .channels) (wiresOf m) (waysOf m) × Sized p × OnChannels (m .channels) arrivals × (from ≤ length arrivals) × (t < 2 ^ 24) × (count ≤ length list)
+  instant-can now = (
+    so-far .represents .rings,
+    runs .starts .able,
+    so-far .sized,
+    rw (runs .starts .channels) (faultless-on net arrivals (runs .faultless)),
+    so-far .cursor .within,
+    before-instant now .early,
+    omega (arith, same-room, so-far .fits),
+  )
+
+  -- how far the run comes by the instant
+  pub then-reached : (step : Step) → instant net arrivals (length list - count) t (so-far .st) ≡ step
+      → reached net arrivals (length before) (suc t) ≡ stepped (so-far .words) t step
+  unfolding reached onward
+  then-reached step e = rw (here, ← same-room, ← so-far .many, e)
+
+  -- past the horizon the run has ended
+  pub run-ends : horizon < t → RunOf (outcome (reached net arrivals (length before) (suc horizon))) before list (Ran.End count)
+  run-ends past =
+      let at : reached net arrivals (length before) (suc horizon) ≡ running (so-far .words) (so-far .st) = so-far .still (suc horizon) (so-far .ends) past in
+      rw at (record { answer = rw (so-far .many); list = rw (← so-far .many) (so-far .listed) })

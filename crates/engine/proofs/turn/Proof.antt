@@ -1,0 +1,148 @@
+-- `engine::turn` meets its contract, by the three outcomes: node n is released, and what `release` answers is stored; its result was due
+-- and is written; or neither, and nothing changes. Assumes nothing.
+use borrow.Author.Needs.{needs}
+use Rattle.engine.proofs.TurnLaws.{turned-released, turned-due, turned-idle}
+use native.Mathlib.Omega.{arith}
+use Rattle.engine.proofs.turn.Statement.{statement}
+use Rattle.engine.proofs.turn.Tie as tie
+
+mul-t21 : tie.Need-mul-t21
+mul-t21 c = search needs
+
+element-copy-out-t24 : tie.Need-element-copy-out-t24
+element-copy-out-t24 c = search needs
+
+mul-t25 : tie.Need-mul-t25
+mul-t25 c = search needs
+
+element-copy-out-t28 : tie.Need-element-copy-out-t28
+element-copy-out-t28 c = search needs
+
+mul-t29 : tie.Need-mul-t29
+mul-t29 c = search needs
+
+element-copy-out-t32 : tie.Need-element-copy-out-t32
+element-copy-out-t32 c = search needs
+
+mul-release : tie.Need-mul-release
+mul-release c = search needs
+
+element-copy-out-release : tie.Need-element-copy-out-release
+element-copy-out-release c = search needs
+
+mul-release-2 : tie.Need-mul-release-2
+mul-release-2 c = search needs
+
+element-copy-out-release-2 : tie.Need-element-copy-out-release-2
+element-copy-out-release-2 c = search needs
+
+mul-release-3 : tie.Need-mul-release-3
+mul-release-3 c = search needs
+
+element-copy-out-release-3 : tie.Need-element-copy-out-release-3
+element-copy-out-release-3 c = search needs
+
+mul-release-4 : tie.Need-mul-release-4
+mul-release-4 c = search needs
+
+element-copy-out-release-4 : tie.Need-element-copy-out-release-4
+element-copy-out-release-4 c = search needs
+
+release-requires : tie.Need-release-requires
+release-requires c κs =
+    let start = c .before .before .before .before .before .before .before .before .before .before .before in (
+      start .pre .0,
+      start .pre .1,
+      start .pre .3 .kind,
+      start .pre .3 .divisor,
+      start .pre .3 .ports,
+      omega arith,
+      start .pre .3 .period,
+      start .pre .3 .deadline,
+    )
+
+mul-next : tie.Need-mul-next
+mul-next c = search needs
+
+element-write-next : tie.Need-element-write-next
+element-write-next c = search needs
+
+mul-due : tie.Need-mul-due
+mul-due c = search needs
+
+element-write-due : tie.Need-element-write-due
+element-write-due c = search needs
+
+mul-value : tie.Need-mul-value
+mul-value c = search needs
+
+element-write-value : tie.Need-element-write-value
+element-write-value c = search needs
+
+soon-requires : tie.Need-soon-requires
+soon-requires c κs = search needs
+
+returns : tie.Need-returns
+returns c =
+    let start = c .before .before .before .before .before .before .before .before .before .before .before .before .before in
+    turned-released (start .pre .4) (start .pre .1) (c .before .before .before .before .before .before .before .before .if1 .taken) (c .before .release .ensures) (c .soon .ensures)
+
+written-requires : tie.Need-written-requires
+written-requires c κs = search needs
+
+mul-due-2 : tie.Need-mul-due-2
+mul-due-2 c = search needs
+
+element-write-due-2 : tie.Need-element-write-due-2
+element-write-due-2 c = search needs
+
+soon-requires-2 : tie.Need-soon-requires-2
+soon-requires-2 c κs = search needs
+
+returns-2 : tie.Need-returns-2
+returns-2 c =
+    let start = c .before .before .before .before .before .before .before .before .before in
+    turned-due (start .pre .4) (start .pre .1) (start .pre .0) (c .before .before .before .before .if1 .left) (c .before .before .if2 .taken) (c .before .written .ensures) (c .soon2 .ensures)
+
+soon-requires-3 : tie.Need-soon-requires-3
+soon-requires-3 c κs = search needs
+
+returns-3 : tie.Need-returns-3
+returns-3 c =
+    let start = c .before .before .before .before .before .before .before .before in
+    turned-idle (start .pre .4) (start .pre .1) (start .pre .0) (c .before .before .before .if1 .left) (c .before .if2 .left) (c .soon3 .ensures)
+
+pub turn-spec : {M : Type 1} → statement M
+turn-spec =
+    tie.close
+    (tie.spec
+    mul-t21
+    element-copy-out-t24
+    mul-t25
+    element-copy-out-t28
+    mul-t29
+    element-copy-out-t32
+    mul-release
+    element-copy-out-release
+    mul-release-2
+    element-copy-out-release-2
+    mul-release-3
+    element-copy-out-release-3
+    mul-release-4
+    element-copy-out-release-4
+    release-requires
+    mul-next
+    element-write-next
+    mul-due
+    element-write-due
+    mul-value
+    element-write-value
+    soon-requires
+    returns
+    written-requires
+    mul-due-2
+    element-write-due-2
+    soon-requires-2
+    returns-2
+    soon-requires-3
+    returns-3)
