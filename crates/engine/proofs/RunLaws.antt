@@ -97,10 +97,10 @@ module _ {net : Network} {m : Machine} {horizon : ℕ} {arrivals before list : L
         cursor = so-far .cursor;
       }
 
-  -- the instant can be done
-  pub instant-can : t ≤ horizon
-      → Rings (shapeOf m) x × Able (m .nodes) (m .channels) (wiresOf m) (waysOf m) × Sized p × OnChannels (m .channels) arrivals × (from ≤ length arrivals) × (t < 2 ^ 24) × (count ≤ length list)
-  instant-can now = (
+  -- the instant can be done, with room for its words
+  pub instant-can : t ≤ horizon → (room : List ℕ) → length room ≡ 64
+      → Rings (shapeOf m) x × Able (m .nodes) (m .channels) (wiresOf m) (waysOf m) × Sized p × OnChannels (m .channels) arrivals × (from ≤ length arrivals) × (t < 2 ^ 24) × (count ≤ length list) × (length room ≡ 64)
+  instant-can now room full = (
     so-far .represents .rings,
     runs .starts .able,
     so-far .sized,
@@ -108,6 +108,7 @@ module _ {net : Network} {m : Machine} {horizon : ℕ} {arrivals before list : L
     so-far .cursor .within,
     before-instant now .early,
     omega (arith, same-room, so-far .fits),
+    full,
   )
 
   -- how far the run comes by the instant

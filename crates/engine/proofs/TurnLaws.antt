@@ -86,3 +86,8 @@ module _ {w : Wires} {s : Shape} {x : Cells} {p : Pendings} {t n : ℕ} (sized :
       let stays : eqb (getD (p .due) n 0) t ≡ false = ne-eqb (getD (p .due) n 0) t waiting in
       rw (stored-same p n) at
       (turned {y = x} (pendingAt p n) (rw still (took-none rings)) (rw (still, stays)) (rw still) soon)
+
+  -- and so where it is before its next release and before its result is due
+  pub turned-early : {m : ℕ} → Rings s x → t < m → m ≡ soonAt p n → Turned w s x p t n x p m
+  turned-early rings early soon =
+      turned-idle rings (λ e. omega (arith, early, soon, e)) (λ e. omega (arith, early, soon, e)) soon

@@ -487,14 +487,25 @@ fn copy_out(words: &[u64; 64], count: usize, out: &mut [u64], at: usize)
 
 // ---- Step 4: reads
 
-// How many inputs each kind has, kind 0 first.
-const INPUTS: [usize; 12] = [0, 1, 1, 2, 2, 2, 2, 1, 3, 2, 1, 1];
-
+// How many inputs a kind has.
 fn inputs_of(kind: u32) -> usize
     requires { ⌜ kind < 12 ⌝ }
     ensures { λ r. ⌜ r ≡ inputsOf kind ⌝ }
 {
-    INPUTS[wide(kind)]
+    match kind {
+        0 => 0,
+        1 => 1,
+        2 => 1,
+        3 => 2,
+        4 => 2,
+        5 => 2,
+        6 => 2,
+        7 => 1,
+        8 => 3,
+        9 => 2,
+        10 => 1,
+        _ => 1,
+    }
 }
 
 // Every channel at the first `count` ports of node `n` holds a token.
@@ -640,6 +651,10 @@ fn turn(
         due: due[n],
         value: value[n],
     };
+    let soon = state.soon();
+    if t < soon {
+        return soon;
+    }
     if state.next == t {
         let after = release(
             channels,
@@ -897,18 +912,19 @@ fn finish(
     arrivals: &[u64],
     from: usize,
     t: u32,
+    words: &mut [u64; 64],
     list: &mut [u64],
     count: usize,
 ) -> Step
-    requires { ⌜ Rings (shape channels (now sort) (now base) (now capacity)) (cells (now head) (now len) (now tokens)) × Able nodes channels (wires (now kind) (now constant) (now period) (now deadline) (now input)) (ways (now writer) (now first) (now follow) out (now outs)) × Sized (pendings (now next) (now due) (now value)) × (t < 2 ^ 24) × (count ≤ length (now list)) ⌝ }
-    ensures { λ r. ⌜ ((net : Rules) (st : State) (x : Cells) → nodes ≡ length (net .nodes) → Written net (now (arrivals .entry)) (shape channels (now (sort .entry)) (now (base .entry)) (now (capacity .entry))) (wires (now (kind .entry)) (now (constant .entry)) (now (period .entry)) (now (deadline .entry)) (now (input .entry))) (ways (now (writer .entry)) (now (first .entry)) (now (follow .entry)) out (now (outs .entry))) from t st x (pendings (now (next .entry)) (now (due .entry)) (now (value .entry))) (cells (now (head .entry)) (now (len .entry)) (now (tokens .entry))) → StepSays net (now (arrivals .entry)) (shape channels (now (sort .entry)) (now (base .entry)) (now (capacity .entry))) t st (now (list .entry)) count r (now (list .exit)) (cells (now (head .exit)) (now (len .exit)) (now (tokens .exit))) (pendings (now (next .exit)) (now (due .exit)) (now (value .exit)))) ⌝ }
+    requires { ⌜ Rings (shape channels (now sort) (now base) (now capacity)) (cells (now head) (now len) (now tokens)) × Able nodes channels (wires (now kind) (now constant) (now period) (now deadline) (now input)) (ways (now writer) (now first) (now follow) out (now outs)) × Sized (pendings (now next) (now due) (now value)) × (t < 2 ^ 24) × (count ≤ length (now list)) × (length (now words) ≡ 64) ⌝ }
+    ensures says { λ r. ⌜ ((net : Rules) (st : State) (x : Cells) → nodes ≡ length (net .nodes) → Written net (now (arrivals .entry)) (shape channels (now (sort .entry)) (now (base .entry)) (now (capacity .entry))) (wires (now (kind .entry)) (now (constant .entry)) (now (period .entry)) (now (deadline .entry)) (now (input .entry))) (ways (now (writer .entry)) (now (first .entry)) (now (follow .entry)) out (now (outs .entry))) from t st x (pendings (now (next .entry)) (now (due .entry)) (now (value .entry))) (cells (now (head .entry)) (now (len .entry)) (now (tokens .entry))) → StepSays net (now (arrivals .entry)) (shape channels (now (sort .entry)) (now (base .entry)) (now (capacity .entry))) t st (now (list .entry)) count r (now (list .exit)) (cells (now (head .exit)) (now (len .exit)) (now (tokens .exit))) (pendings (now (next .exit)) (now (due .exit)) (now (value .exit)))) ⌝ }
+    ensures kept { λ r. ⌜ length (now (words .exit)) ≡ 64 ⌝ }
 {
-    let mut words = [0u64; 64];
-    let more = gather(channels, t, out, outs, writer, due, value, &mut words);
+    let more = gather(channels, t, out, outs, writer, due, value, words);
     if list.len() - count < more {
         return Step::Short;
     }
-    copy_out(&words, more, list, count);
+    copy_out(words, more, list, count);
     let soon = read_all(
         channels,
         nodes,
@@ -962,11 +978,13 @@ fn instant(
     arrivals: &[u64],
     from: usize,
     t: u32,
+    words: &mut [u64; 64],
     list: &mut [u64],
     count: usize,
 ) -> Step
-    requires { ⌜ Rings (shape channels (now sort) (now base) (now capacity)) (cells (now head) (now len) (now tokens)) × Able nodes channels (wires (now kind) (now constant) (now period) (now deadline) (now input)) (ways (now writer) (now first) (now follow) out (now outs)) × Sized (pendings (now next) (now due) (now value)) × OnChannels channels (now arrivals) × (from ≤ length (now arrivals)) × (t < 2 ^ 24) × (count ≤ length (now list)) ⌝ }
-    ensures { λ r. ⌜ ((net : Rules) (st : State) → nodes ≡ length (net .nodes) → Before net (now (arrivals .entry)) (shape channels (now (sort .entry)) (now (base .entry)) (now (capacity .entry))) (wires (now (kind .entry)) (now (constant .entry)) (now (period .entry)) (now (deadline .entry)) (now (input .entry))) (ways (now (writer .entry)) (now (first .entry)) (now (follow .entry)) out (now (outs .entry))) from t st (cells (now (head .entry)) (now (len .entry)) (now (tokens .entry))) (pendings (now (next .entry)) (now (due .entry)) (now (value .entry))) → StepSays net (now (arrivals .entry)) (shape channels (now (sort .entry)) (now (base .entry)) (now (capacity .entry))) t st (now (list .entry)) count r (now (list .exit)) (cells (now (head .exit)) (now (len .exit)) (now (tokens .exit))) (pendings (now (next .exit)) (now (due .exit)) (now (value .exit)))) ⌝ }
+    requires { ⌜ Rings (shape channels (now sort) (now base) (now capacity)) (cells (now head) (now len) (now tokens)) × Able nodes channels (wires (now kind) (now constant) (now period) (now deadline) (now input)) (ways (now writer) (now first) (now follow) out (now outs)) × Sized (pendings (now next) (now due) (now value)) × OnChannels channels (now arrivals) × (from ≤ length (now arrivals)) × (t < 2 ^ 24) × (count ≤ length (now list)) × (length (now words) ≡ 64) ⌝ }
+    ensures says { λ r. ⌜ ((net : Rules) (st : State) → nodes ≡ length (net .nodes) → Before net (now (arrivals .entry)) (shape channels (now (sort .entry)) (now (base .entry)) (now (capacity .entry))) (wires (now (kind .entry)) (now (constant .entry)) (now (period .entry)) (now (deadline .entry)) (now (input .entry))) (ways (now (writer .entry)) (now (first .entry)) (now (follow .entry)) out (now (outs .entry))) from t st (cells (now (head .entry)) (now (len .entry)) (now (tokens .entry))) (pendings (now (next .entry)) (now (due .entry)) (now (value .entry))) → StepSays net (now (arrivals .entry)) (shape channels (now (sort .entry)) (now (base .entry)) (now (capacity .entry))) t st (now (list .entry)) count r (now (list .exit)) (cells (now (head .exit)) (now (len .exit)) (now (tokens .exit))) (pendings (now (next .exit)) (now (due .exit)) (now (value .exit)))) ⌝ }
+    ensures kept { λ r. ⌜ length (now (words .exit)) ≡ 64 ⌝ }
 {
     let full = write_due(
         channels,
@@ -1024,6 +1042,7 @@ fn instant(
         arrivals,
         arrived.next,
         t,
+        words,
         list,
         count,
     )
@@ -1138,6 +1157,7 @@ fn run_machine(m: Machine, horizon: u32, arrivals: &[u64], list: &mut [u64]) -> 
     let mut next = [0u32; 32];
     let mut due = [NEVER; 32];
     let mut value = [0u32; 32];
+    let mut words = [0u64; 64];
     let mut t = 0;
     let mut from = 0;
     let mut count = 0;
@@ -1167,6 +1187,7 @@ fn run_machine(m: Machine, horizon: u32, arrivals: &[u64], list: &mut [u64]) -> 
             arrivals,
             from,
             t,
+            &mut words,
             list,
             count,
         );

@@ -12,7 +12,7 @@ use Rattle.engine.proofs.finish.Tie as tie
 gather-requires : tie.Need-gather-requires
 gather-requires c κs =
     let start = c .before .before .before .before .before in
-    (start .pre .1 .outs, start .pre .3, refl)
+    (start .pre .1 .outs, start .pre .3, start .pre .5)
 
 sub-if1 : tie.Need-sub-if1
 sub-if1 c = search needs
@@ -21,7 +21,7 @@ returns : tie.Need-returns
 returns c =
     let a = c .before .before .before .before .before .before .before .args in
     let gathered = c .before .gather .ensures in
-    λ net st x all written. (step-short written (gathered .0) (gathered .1) (length (a .list .now) - a .count) (c .if1 .taken), refl)
+    (λ net st x all written. (step-short written (gathered .0) (gathered .1) (length (a .list .now) - a .count) (c .if1 .taken), refl), gathered .1)
 
 copy-out-requires : tie.Need-copy-out-requires
 copy-out-requires c κs =
@@ -46,9 +46,11 @@ returns-2 c =
     let arrival = c .before .before .before .before .before .before .before in
     let copied = arrival .before .before .before in
     let fits = copied .before .before .before in
-    let gathered = fits .before .gather .ensures in
-    λ net st x all written.
-    step-on written (gathered .0) (gathered .1) all (fits .if1 .left) (copied .copy-out .ensures) (c .read-all .ensures .0) (arrival .arrival-time .ensures) (c .read-all .ensures .1)
+    let gathered = fits .before .gather .ensures in (
+      λ net st x all written.
+          step-on written (gathered .0) (gathered .1) all (fits .if1 .left) (copied .copy-out .ensures) (c .read-all .ensures .0) (arrival .arrival-time .ensures) (c .read-all .ensures .1),
+      gathered .1,
+    )
 
 pub finish-spec : {M : Type 1} → statement M
 finish-spec =

@@ -26,27 +26,31 @@ returns : tie.Need-returns
 returns c =
     let arrived = c .before .before in
     let due = arrived .before .before .before .before in
-    let a = due .before .before .before .before .before .before .before .before .args in
-    λ net st all before.
-    (step-full all before (due .write-due .ensures) (arrived .write-arrivals .ensures) (c .before .least .ensures) (length (a .list .now) - a .count) (c .if1 .taken), refl)
+    let start = due .before .before .before .before .before .before .before .before in (
+      λ net st all before.
+          (step-full all before (due .write-due .ensures) (arrived .write-arrivals .ensures) (c .before .least .ensures) (length (start .args .list .now) - start .args .count) (c .if1 .taken), refl),
+      start .pre .7,
+    )
 
 finish-requires : tie.Need-finish-requires
 finish-requires c κs =
-    let arrived = c .before .before .before .before .before .before .before .before .before in
+    let arrived = c .before .before .before .before .before .before .before .before .before .before in
     let start = arrived .before .before .before .before .before .before .before .before .before .before .before .before in
-    (arrived .write-arrivals .ensures .wrote .rings, start .pre .1, start .pre .2, start .pre .5, start .pre .6)
+    (arrived .write-arrivals .ensures .wrote .rings, start .pre .1, start .pre .2, start .pre .5, start .pre .6, start .pre .7)
 
 same-length : tie.Need-same-length
 same-length c = search needs
 
 returns-2 : tie.Need-returns-2
 returns-2 c =
-    let free = c .before .before .before .before .before .before .before .before .before .before in
+    let free = c .before .before .before .before .before .before .before .before .before .before .before in
     let arrived = free .before .before in
-    let due = arrived .before .before .before .before in
-    λ net st all before.
-    c .before .before .finish .ensures net st _ all
-    (step-written all before (due .write-due .ensures) (arrived .write-arrivals .ensures) (free .before .least .ensures) (free .if1 .left))
+    let due = arrived .before .before .before .before in (
+      λ net st all before.
+          c .before .before .finish .ensures .0 net st _ all
+          (step-written all before (due .write-due .ensures) (arrived .write-arrivals .ensures) (free .before .least .ensures) (free .if1 .left)),
+      c .before .before .finish .ensures .1,
+    )
 
 pub instant-spec : {M : Type 1} → statement M
 instant-spec =
