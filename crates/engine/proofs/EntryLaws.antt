@@ -25,7 +25,7 @@ use Rattle.engine.specs.declared.Machine.{Machine}
 use Rattle.engine.specs.Setup.{faultyBy}
 use Rattle.engine.specs.Steps.{RunOf, Starts, Lawful, runRead}
 use Rattle.engine.proofs.WroteLaws.{lowest-ext}
-use Rattle.engine.proofs.RefusalNumbers.{network-numbered}
+use Rattle.engine.proofs.RefusalNumbers.{in-range, case-in-range, network-numbered}
 
 -- a refusal leaves the list as it was
 refused-run : (why : Refusal) (list : List ℕ) → RunOf (refused (numberOf why) (placeOf why)) list list (Ran.Refused why)
@@ -75,26 +75,13 @@ pub record Taken (s : List ℕ) (r : Table) : Type 0 where
   pub lawful : Lawful (r .network)
   pub reads : network s ≡ read (lawful .net)
 
--- no refusal has the number 0
-refusal-not-zero : (why : Refusal) → numberOf why ≡ 0 → ⊥
-refusal-not-zero (Refusal.BitsEnd place) e = omega arith
-refusal-not-zero Refusal.Version e = omega arith
-refusal-not-zero Refusal.Counts e = omega arith
-refusal-not-zero (Refusal.NodeField node) e = omega arith
-refusal-not-zero (Refusal.ChannelField channel) e = omega arith
-refusal-not-zero (Refusal.Capacities channel) e = omega arith
-refusal-not-zero Refusal.Leftover e = omega arith
-refusal-not-zero (Refusal.Ports node) e = omega arith
-refusal-not-zero Refusal.Horizon e = omega arith
-refusal-not-zero (Refusal.Arrival index) e = omega arith
-
 module _ (s : List ℕ) {r : Table} (got : TableOf (network s) r) where
   table-refused : {why : Refusal} → r .answer ≡ Checked.Refused why → network s ≡ refusal (numberOf why) (placeOf why)
   table-refused {why} is = by-reading (network s) (ap checkedSays (sym is) ∙ got .answer)
     where
       by-reading : (v : Reading Network) → checkedSays (Checked.Refused why) ≡ checkSays v → v ≡ refusal (numberOf why) (placeOf why)
       by-reading (refusal number place) e = λ i. refusal (sym e i .number) (sym e i .place)
-      by-reading (read net) e = absurd (refusal-not-zero why (ap (λ says. says .number) e))
+      by-reading (read net) e = absurd (omega (arith, case-in-range why, ap (λ says. says .number) e))
 
   pub table-taken : {nodes channels : ℕ} → r .answer ≡ Checked.Taken nodes channels → Taken s r
   table-taken {nodes} {channels} is = by-reading (network s) refl
@@ -102,7 +89,7 @@ module _ (s : List ℕ) {r : Table} (got : TableOf (network s) r) where
       by-reading : (v : Reading Network) → network s ≡ v → Taken s r
       by-reading (refusal number place) e =
           let none : 0 ≡ number = ap (λ says. says .number) (ap checkedSays (sym is) ∙ got .answer ∙ ap checkSays e) in
-          absurd (omega (arith, ltb-true 0 number (network-numbered s .from number place e)))
+          absurd (omega (arith, in-range number (network-numbered s .from number place e)))
       by-reading (read net) e = record { lawful = record { net = net; obeys = accepted s net e; from = got .network ∙ ap laid e }; reads = e }
 
   -- a run of the table is refused as the table is, and else is the run of the network

@@ -1,24 +1,52 @@
--- No reading of a table is refused by the number 0: where a piece of it is refused, that is by one of the paper's numbers. Assumes
--- nothing.
-use Prim.Native.Nat.{ℕ, zero, suc, _+_, _*_}
+-- Refusals have the paper's numbers, 1 to 10: the cases of an answer, and what the reading of a table is refused by. Assumes nothing.
+use Prim.Native.Nat.{ℕ, zero, suc, _+_, _*_, _≤_}
 use native.Mathlib.Omega.{arith}
 use mathlib.Core.Bool.{Bool, true, false, _&&_}
 use mathlib.Core.List.{List}
 use mathlib.Core.Path.{_≡_, refl}
 use lib.Dec.{eqb, leb, ltb}
 use lib.ListN.{length}
+use borrow.Author.Tests.{ltb-true, leb-true}
+use Rattle.rules.specs.declared.Refusal.{Refusal}
 use Rattle.rules.specs.Kinds.{signed}
 use Rattle.rules.specs.Network.{Network, countsOk, nodeOk, channelOk}
+use Rattle.rules.specs.Refusals.{numberOf}
 use Rattle.rules.specs.Table.{Reading, refusal, read, _then_, unless, fieldAt, Header, headerAt, nodeAt, nodePiece, nodesUpTo, tokenPiece, tokensUpTo, channelAt, channelPiece, channelsUpTo, endsAt, faultyNode, network}
+use Rattle.rules.proofs.ListLaws.{and-left, and-right}
 
--- a reading that is refused by no number but one from 1 on
+-- a number from 1 to 10
+abbrev pub isNumber : ℕ → Bool
+isNumber number = ltb 0 number && leb number 10
+
+pub in-range : (number : ℕ) → isNumber number ≡ true → (1 ≤ number) × (number ≤ 10)
+in-range number h = (
+  ltb-true 0 number (and-left (ltb 0 number) (leb number 10) h),
+  leb-true number 10 (and-right (ltb 0 number) (leb number 10) h),
+)
+
+pub case-in-range : (why : Refusal) → (1 ≤ numberOf why) × (numberOf why ≤ 10)
+case-in-range why = in-range (numberOf why) (by-case why)
+  where
+    by-case : (why : Refusal) → isNumber (numberOf why) ≡ true
+    by-case (Refusal.BitsEnd place) = refl
+    by-case Refusal.Version = refl
+    by-case Refusal.Counts = refl
+    by-case (Refusal.NodeField node) = refl
+    by-case (Refusal.ChannelField channel) = refl
+    by-case (Refusal.Capacities channel) = refl
+    by-case Refusal.Leftover = refl
+    by-case (Refusal.Ports node) = refl
+    by-case Refusal.Horizon = refl
+    by-case (Refusal.Arrival index) = refl
+
+-- a reading that is refused by no other number
 pub record Numbered {A : Type 0} (r : Reading A) : Type 0 where
-  pub from : (number place : ℕ) → r ≡ refusal number place → ltb 0 number ≡ true
+  pub from : (number place : ℕ) → r ≡ refusal number place → isNumber number ≡ true
 
 read-numbered : {A : Type 0} {a : A} → Numbered (read a)
 read-numbered = record { from = λ number place e. let z : _≡_ {A = ℕ} 0 1 = cc in absurd (omega arith) }
 
-refusal-numbered : {A : Type 0} (number place : ℕ) → ltb 0 number ≡ true → Numbered {A = A} (refusal number place)
+refusal-numbered : {A : Type 0} (number place : ℕ) → isNumber number ≡ true → Numbered {A = A} (refusal number place)
 refusal-numbered number place h = record { from = λ m p e. cc }
 
 then-numbered : {A B : Type 0} {r : Reading A} {go : A → Reading B} → Numbered r → ((a : A) → Numbered (go a)) → Numbered (r then go)
@@ -29,12 +57,12 @@ then-numbered {A} {B} {r} {go} first rest = by-reading r first
     by-reading (read a) first = rest a
 
 -- a test, and then the rest
-unless-numbered : {A B : Type 0} (test : Bool) (number place : ℕ) (a : A) (go : A → Reading B) → ltb 0 number ≡ true → Numbered (go a) → Numbered (unless test number place a then go)
+unless-numbered : {A B : Type 0} (test : Bool) (number place : ℕ) (a : A) (go : A → Reading B) → isNumber number ≡ true → Numbered (go a) → Numbered (unless test number place a then go)
 unless-numbered true number place a go h rest = rest
 unless-numbered false number place a go h rest = refusal-numbered number place h
 
 -- a last test
-test-numbered : {A : Type 0} (test : Bool) (number place : ℕ) (a : A) → ltb 0 number ≡ true → Numbered (unless test number place a)
+test-numbered : {A : Type 0} (test : Bool) (number place : ℕ) (a : A) → isNumber number ≡ true → Numbered (unless test number place a)
 test-numbered true number place a h = read-numbered
 test-numbered false number place a h = refusal-numbered number place h
 

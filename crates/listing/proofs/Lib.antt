@@ -1,0 +1,5 @@
+pub mod TextLaws
+pub mod DecimalLaws
+pub mod LineLaws
+pub mod InputLaws
+pub mod WholeLaws

@@ -1,0 +1,43 @@
+-- `listing::put_end` meets its contract: the word, the horizon of at most 20 digits and the line feed are put one behind another.
+-- Assumes nothing.
+use native.Mathlib.Omega.{arith}
+use borrow.Author.Needs.{needs}
+use Rattle.rules.specs.Listing.{line, lastLine}
+use Rattle.listing.proofs.TextLaws.{put-then}
+use Rattle.listing.proofs.DecimalLaws.{decimal-length}
+use Rattle.listing.proofs.put_end.Statement.{statement}
+use Rattle.listing.proofs.put_end.Tie as tie
+
+slice-aggregate-put : tie.Need-slice-aggregate-put
+slice-aggregate-put c = search needs
+
+put-requires : tie.Need-put-requires
+put-requires c κs = search needs
+
+put-number-requires : tie.Need-put-number-requires
+put-number-requires c κs = omega (arith, decimal-length 19 (c .before .before .before .before .before .before .before .args .horizon) (omega arith))
+
+put-byte-requires : tie.Need-put-byte-requires
+put-byte-requires c κs = omega (arith, decimal-length 19 (c .before .before .before .before .before .before .before .before .before .before .before .args .horizon) (omega arith))
+
+same-length : tie.Need-same-length
+same-length c = search needs
+
+returns : tie.Need-returns
+unfolding lastLine line
+returns c =
+    let feed = c .before .before in
+    let horizon = feed .before .before .before .before in
+    let word = horizon .before .before .before .before in
+    put-then (word .put .ensures) (put-then (horizon .put-number .ensures) (feed .put-byte .ensures))
+
+pub put-end-spec : {M : Type 1} → statement M
+put-end-spec =
+    tie.close
+    (tie.spec
+    slice-aggregate-put
+    put-requires
+    put-number-requires
+    put-byte-requires
+    same-length
+    returns)
