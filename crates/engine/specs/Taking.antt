@@ -1,17 +1,16 @@
 -- What a released node takes and makes of it. Assumes nothing.
 use Prim.Native.Nat.{ℕ, _+_, _*_, _≤_, _<_}
-use mathlib.Core.Bool.{Bool, true, false, cond, not, _&&_}
+use mathlib.Core.Bool.{Bool, false, cond, not}
 use mathlib.Core.List.{List, [], _∷_}
 use mathlib.Core.Option.{Option, none, some}
 use mathlib.Core.Path.{_≡_}
 use lib.Dec.{eqb, ltb}
 use lib.IntN.{ℤ}
-use lib.ListN.{length, getD}
+use lib.ListN.{getD}
 use Rattle.rules.specs.Lists.{every, isEmpty}
-use Rattle.rules.specs.Kinds.{signed, result, inputs}
+use Rattle.rules.specs.Kinds.{signed}
 use Rattle.engine.specs.declared.Made.{Made}
-use Rattle.engine.specs.declared.Pending.{Pending}
-use Rattle.engine.specs.Rings.{Shape, Cells, Rings, heldAt, registerAt}
+use Rattle.engine.specs.Rings.{Shape, Cells, heldAt}
 
 -- the oldest token, 0 where there is none
 abbrev pub oldestOf : List ℕ → ℕ

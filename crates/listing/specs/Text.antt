@@ -6,7 +6,7 @@ use lib.ListN.{length, take}
 use lib.Seq.{sets}
 use Rattle.rules.specs.declared.Ran.{Ran}
 use Rattle.rules.specs.Lists.{joined}
-use Rattle.rules.specs.Refusals.{Outcome, refused, stopped, ended, numberOf, placeOf}
+use Rattle.rules.specs.Refusals.{refused, stopped, ended, numberOf, placeOf}
 use Rattle.rules.specs.Listing.{wordLine, lastLine, listing}
 
 -- the bytes stand at a place, with `end` behind them; what stands elsewhere stays

@@ -1,15 +1,14 @@
 -- Bench cases: those that are proved, and a small network for each slip that a builder will be drawn to. Assumes nothing.
-use Prim.Native.Nat.{ℕ, suc, _+_}
+use Prim.Native.Nat.{ℕ, suc}
 use mathlib.Core.List.{List, [], _∷_}
-use mathlib.Core.Option.{Option, none, some}
-use mathlib.Core.Path.{_≡_}
+use mathlib.Core.Option.{Option, some}
 use lib.IntN.{ℤ, pos, negsuc}
 use Rattle.rules.specs.declared.Node.{Node}
 use Rattle.rules.specs.declared.Channel.{Channel}
 use Rattle.rules.specs.Kinds.{result}
 use Rattle.rules.specs.Network.{Network, outside}
 use Rattle.rules.specs.Instant.{word, reached}
-use Rattle.rules.specs.Refusals.{CheckSays, check, Outcome, refused, stopped, ended, run, outcome}
+use Rattle.rules.specs.Refusals.{CheckSays, check, Outcome, stopped, ended, run, outcome}
 use Rattle.rules.specs.Listing.{listing}
 
 -- what a case asks of the rules

@@ -1,7 +1,7 @@
 -- Table bits: the rules that a network obeys by itself, whatever bits it was read from. Assumes nothing.
-use Prim.Native.Nat.{ℕ, _+_, _≤_, _<_}
-use mathlib.Core.Bool.{Bool, true, false, cond, not, _&&_, _||_}
-use mathlib.Core.List.{List, [], _∷_}
+use Prim.Native.Nat.{ℕ, _≤_, _<_}
+use mathlib.Core.Bool.{Bool, true, cond, not, _&&_, _||_}
+use mathlib.Core.List.{List, []}
 use mathlib.Core.Path.{_≡_}
 use lib.Dec.{eqb, leb, ltb}
 use lib.IntN.{ℤ, pos}

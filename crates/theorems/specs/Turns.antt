@@ -1,7 +1,7 @@
 -- The second semantics: in each instant the nodes go one after another, each working on the channels as the one before left them; all
 -- writes are kept before all reads. It shares the rules' records, kinds and ports, and not the rules' instant. Assumes nothing.
 use Prim.Native.Nat.{ℕ, zero, suc, _+_, _-_, _<_}
-use mathlib.Core.Bool.{Bool, true, false, cond, not, _&&_, _||_}
+use mathlib.Core.Bool.{true, cond, not, _&&_, _||_}
 use mathlib.Core.List.{List, [], _∷_, _++_, map}
 use mathlib.Core.Option.{Option, none}
 use mathlib.Core.Path.{_≡_}
@@ -10,7 +10,7 @@ use lib.IntN.{ℤ}
 use lib.ListN.{getD, length, drop}
 use Rattle.rules.specs.Lists.{tab, joined, lowest}
 use Rattle.rules.specs.Network.{Network, nodeOf, channelOf, isRegister, isOut, outside}
-use Rattle.rules.specs.Instant.{word, Waiting, State, waitingOf, heldIn, initial, isDue, dueNow, arriving, keeping, overfull, released, ready, resultOf, waitFor, Step, stops, goes, Reached, running, halted, stepped, Written}
+use Rattle.rules.specs.Instant.{word, Waiting, State, heldIn, initial, isDue, dueNow, arriving, keeping, overfull, released, ready, resultOf, waitFor, Step, stops, goes, Reached, running, halted, stepped, Written}
 
 -- how often n stands in a list
 unfoldable pub times : ℕ → List ℕ → ℕ
