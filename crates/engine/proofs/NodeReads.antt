@@ -19,17 +19,13 @@ use Rattle.engine.specs.Taking.{oldestOf, portOf, atPort, allHold, found
 use Rattle.engine.specs.Nodes.{Wires, inputsAt, resultAt}
 use Rattle.engine.specs.Represents.{Ways, Wired}
 use Rattle.engine.proofs.PortLaws.{port-there, port-read, no-port, read-in, read-at}
+use Rattle.rules.proofs.Agreeing.{every-fails}
 
 -- tests that pass together are the same
 same-test : (a b : Bool) → (a ≡ true → b ≡ true) → (b ≡ true → a ≡ true) → a ≡ b
 same-test true b to from = sym (to refl)
 same-test false true to from = from refl
 same-test false false to from = refl
-
--- one number without the property is enough
-pub every-fails : (n : ℕ) (f : ℕ → Bool) (i : ℕ) → i < n → f i ≡ false → every n f ≡ false
-every-fails n f i below fails =
-    by-test (every n f) (λ e. true-or-false (every-at n f e i below) fails) (λ e. e)
 
 -- tokens and their bits
 empty-signed : (l : List ℕ) → isEmpty (map signed l) ≡ isEmpty l

@@ -15,13 +15,8 @@ use Rattle.engine.specs.declared.Pending.{Pending}
 use Rattle.engine.specs.Rings.{Shape, Cells, Rings, Took, heldAt, registerAt}
 use Rattle.engine.specs.Taking.{portOf, atPort, allHold, found}
 use Rattle.engine.specs.Nodes.{Wires, Pendings, pendingAt, waitingBy, waitingAt, inputsAt, aheadAt, resultAt, waitingThen, nextThen, takenBelow, soonest, Readable, Sized, Separate, Turned, ReadBelow}
-use Rattle.engine.proofs.TurnLaws.{took-none, took-ext, took-then}
-
--- `every` of two properties that agree below n
-every-ext : (n : ℕ) (f g : ℕ → Bool) → ((i : ℕ) → i < n → f i ≡ g i) → every n f ≡ every n g
-unfolding every
-every-ext zero f g same = refl
-every-ext (suc n) f g same = ap₂ _&&_ (every-ext n f g (λ i h. same i (omega arith))) (same n (omega arith))
+use Rattle.rules.proofs.Agreeing.{every-ext}
+use Rattle.engine.proofs.TookLaws.{took-none, took-ext, took-then, either-takes}
 
 -- what a node finds is told by what stands at its ports
 module _ (s : Shape) (x y : Cells) (input : List ℕ) (n count : ℕ) (same : (p : ℕ) → p < count → heldAt s y (portOf input n p) ≡ heldAt s x (portOf input n p)) where
@@ -67,15 +62,6 @@ module _ {nodes : ℕ} (w : Wires) (s : Shape) (x : Cells) (p : Pendings) (t n :
       (λ other. ap not other)))
       (not-true (every (inputsAt w n) (λ i. not (eqb (portOf (w .input) n i) c))) h))
       (λ e. e)
-
--- one of those took, or the node does, from a channel that is a queue
-either-takes : (none mine queue : Bool) → not (not (not none && queue) && not (mine && queue)) ≡ (not (none && not mine) && queue)
-either-takes true true true = refl
-either-takes true true false = refl
-either-takes true false queue = refl
-either-takes false mine true = refl
-either-takes false true false = refl
-either-takes false false false = refl
 
 -- before the first turn
 pub read-none : {w : Wires} {s : Shape} {x : Cells} {p : Pendings} {t : ℕ} → Rings s x → Sized p → ReadBelow w s x p t 0 x p

@@ -20,7 +20,8 @@ use Rattle.engine.specs.Taking.{atPort, allHold}
 use Rattle.engine.specs.Nodes.{Wires, Pendings, inputsAt, releasedAt, aheadAt, waitingThen, takenBelow, ReadBelow}
 use Rattle.engine.specs.Represents.{Ways, Wired, Represents}
 use Rattle.engine.proofs.ReleaseLaws.{next-is-now, next-after, due-at-release, due-goes}
-use Rattle.engine.proofs.NodeReads.{every-fails, at-port-reads, hold-ready, result-same}
+use Rattle.engine.proofs.NodeReads.{at-port-reads, hold-ready, result-same}
+use Rattle.rules.proofs.Agreeing.{every-fails}
 
 drop-signed : (l : List ℕ) → drop 1 (map signed l) ≡ map signed (drop 1 l)
 drop-signed [] = refl

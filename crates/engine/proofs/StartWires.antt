@@ -13,7 +13,7 @@ use Rattle.rules.specs.Kinds.{inputs}
 use Rattle.rules.specs.Network.{Network, Obeys, nodeOf, channelOf, isOut, serves}
 use Rattle.rules.proofs.ListLaws.{by-test, and-left, and-right, lowest-is}
 use Rattle.table.specs.declared.Network as table
-use Rattle.table.proofs.Ports.{lowest-ext}
+use Rattle.rules.proofs.Agreeing.{lowest-ext}
 use Rattle.engine.specs.Writes.{nextFrom, Walk}
 use Rattle.engine.specs.Setup.{innerOf, outerOf}
 use Rattle.engine.specs.Taking.{portOf}

@@ -13,26 +13,7 @@ use Rattle.engine.specs.Rings.{Shape, Cells, Rings, Took, registerAt}
 use Rattle.engine.specs.Writes.{never}
 use Rattle.engine.specs.Taking.{atPort}
 use Rattle.engine.specs.Nodes.{Wires, Pendings, pendings, pendingAt, inputsAt, releasedAt, aheadAt, waitingBy, waitingThen, resultAt, nextThen, soonAt, Sized, Released, Turned}
-
--- nothing is taken
-pub took-none : {s : Shape} {x : Cells} → Rings s x → Took s x (λ c. false) x
-took-none r = record { rings = r; same = refl; taken = λ c h. refl }
-
--- the same is taken by another test that agrees
-pub took-ext : {s : Shape} {x y : Cells} {f g : ℕ → Bool} → Took s x f y → ((c : ℕ) → f c ≡ g c) → Took s x g y
-took-ext t same = record { rings = t .rings; same = t .same; taken = λ c h. rw (← same c) (t .taken c h) }
-
--- taken from some channels, and then from others
-pub took-then : {s : Shape} {x y z : Cells} {f g : ℕ → Bool} → Took s x f y → Took s y g z → ((c : ℕ) → g c ≡ true → f c ≡ false) → Took s x (λ c. not (not (f c) && not (g c))) z
-took-then {s} {x} {y} {z} {f} {g} t u apart =
-    record {
-      rings = u .rings;
-      same = u .same ∙ t .same;
-      taken = λ c h.
-          by-test (g c)
-          (λ e. rw (e, apart c e) (rw e at (u .taken c h) ∙ ap (drop 1) (rw (apart c e) at (t .taken c h))))
-          (λ e. rw (e, and-true, Bool·not-not) (rw e at (u .taken c h) ∙ t .taken c h));
-    }
+use Rattle.engine.proofs.TookLaws.{took-none}
 
 -- the pendings with node n's replaced
 abbrev pub stored : Pendings → ℕ → Pending → Pendings

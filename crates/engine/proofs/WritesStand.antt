@@ -19,7 +19,8 @@ use Rattle.engine.specs.Rings.{Shape, Cells, Rings, heldAt, over, Wrote}
 use Rattle.engine.specs.Writes.{dueBelow, valuesOn, WroteDue, WroteArrivals}
 use Rattle.engine.specs.Nodes.{Wires, Pendings}
 use Rattle.engine.specs.Represents.{Ways, Wired, Represents, Cursor, writesTo}
-use Rattle.engine.proofs.WroteLaws.{wrote-then, lowest-ext}
+use Rattle.engine.proofs.WroteLaws.{wrote-then}
+use Rattle.rules.proofs.Agreeing.{lowest-ext}
 use Rattle.engine.proofs.ArrivingLaws.{arrived-values}
 use Rattle.engine.proofs.DueLaws.{due-out, due-values}
 use Rattle.engine.proofs.KeepingLaws.{SameTokens, over-full, kept-by-rules}

@@ -13,6 +13,7 @@ use Rattle.rules.specs.Lists.{lastOf, lowest}
 use Rattle.rules.proofs.ListLaws.{by-test, lowest-is, lowest-only, lowest-none}
 use Rattle.engine.specs.Rings.{Shape, Cells, Rings, Wrote, heldAt, kept, over, registerAt, capacityOf}
 use Rattle.engine.proofs.RingLaws.{length-held}
+use Rattle.rules.proofs.Agreeing.{lowest-ext}
 
 -- what is cut off before more is added is cut off after it too
 take-twice : (n : ℕ) (l more : List ℕ) → take n (take n l ++ more) ≡ take n (l ++ more)
@@ -87,15 +88,6 @@ lowest-either n f g either same =
           let first : min (lowest n f) (lowest n g) ≡ lowest n f = omega (arith, ltb-false (lowest n g) (lowest n f) e) in
           rw (first, a .found (omega arith)));
     }))
-
-pub lowest-ext : (n : ℕ) (f g : ℕ → Bool) → ((i : ℕ) → i < n → f i ≡ g i) → lowest n f ≡ lowest n g
-lowest-ext n f g same =
-    let a = lowest-is n g in
-    lowest-only (record {
-      most = a .most;
-      without = λ i h. same i (omega (arith, a .most)) ∙ a .without i h;
-      found = λ h. same (lowest n g) h ∙ a .found h;
-    })
 
 pub wrote-none : (s : Shape) (x : Cells) → Rings s x → Wrote s x (λ c. []) x (s .channels)
 wrote-none s x rings =

@@ -1,4 +1,5 @@
 pub mod ListLaws
+pub mod Agreeing
 pub mod LongerLists
 pub mod KindLaws
 pub mod FieldLaws

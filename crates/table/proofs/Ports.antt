@@ -18,6 +18,7 @@ use Rattle.rules.specs.Table.{faultyNode}
 use Rattle.rules.proofs.ListLaws.{and-both, getD-tab, total-ext}
 use Rattle.table.specs.Laid.{nodeArrays, channelArrays}
 use Rattle.table.specs.Reads.{servedBy, servedRight, faultyIn}
+use Rattle.rules.proofs.Agreeing.{count-ext, every-ext, lowest-ext}
 
 -- a channel counts one where its reader and its port are those asked for, and else none
 module _ (reader port : List ℕ) (n p c found : ℕ) (before : found ≡ count c (servedBy reader port n p)) where
@@ -38,21 +39,6 @@ module _ (reader port : List ℕ) (n p c found : ℕ) (before : found ≡ count 
 -- a node is faulty where the test of its ports fails
 pub faulty-by : (kind reader port : List ℕ) (channels n : ℕ) {k : ℕ} {ok : Bool} → k ≡ inputs (getD kind n 0) → ok ≡ every 4 (servedRight reader port channels n k) → faultyIn kind reader port channels n ≡ not ok
 faulty-by kind reader port channels n h e = rw (e, h)
-
--- properties that agree below n have the same count, hold of every number or not, and have the same lowest number
-pub count-ext : (n : ℕ) (f g : ℕ → Bool) → ((i : ℕ) → i < n → f i ≡ g i) → count n f ≡ count n g
-unfolding count
-count-ext n f g same = total-ext n (λ i. cond (f i) 1 0) (λ i. cond (g i) 1 0) (λ i h. rw (same i h))
-
-pub every-ext : (n : ℕ) (f g : ℕ → Bool) → ((i : ℕ) → i < n → f i ≡ g i) → every n f ≡ every n g
-unfolding every
-every-ext zero f g same = refl
-every-ext (suc n) f g same = ap₂ _&&_ (every-ext n f g (λ i h. same i (omega arith))) (same n (omega arith))
-
-pub lowest-ext : (n : ℕ) (f g : ℕ → Bool) → ((i : ℕ) → i < n → f i ≡ g i) → lowest n f ≡ lowest n g
-unfolding lowest
-lowest-ext zero f g same = refl
-lowest-ext (suc n) f g same = rw (lowest-ext n f g (λ i h. same i (omega arith)), same n (omega arith))
 
 -- by the arrays of a network's fields a channel serves what it serves by the rules
 served-by : (net : rules.Network) (n p c : ℕ) → c < 64 → servedBy (channelArrays (net .channels) (net .tokens) .reader) (channelArrays (net .channels) (net .tokens) .port) n p c ≡ serves net n p c

@@ -8,6 +8,7 @@ use lib.Dec.{ltb}
 use borrow.Author.Tests.{ltb-true, ltb-false}
 use Rattle.rules.specs.Lists.{total, count, every, lowest}
 use Rattle.rules.proofs.ListLaws.{by-test, true-or-false, every-at, every-all, lowest-is, lowest-only, lowest-none, total-ext}
+use Rattle.rules.proofs.Agreeing.{count-ext}
 
 -- a longer range counts no fewer
 count-longer : (n a : ℕ) (f : ℕ → Bool) → a ≤ n → count a f ≤ count n f
@@ -35,10 +36,6 @@ count-more (suc n) a c f h below found =
     let one : cond {A = ℕ} (f n) 1 0 ≡ 1 = rw (← same, found) in
     let front : a ≤ n = omega arith in
     omega (arith, count-longer n a f front))
-
-count-ext : (n : ℕ) (f g : ℕ → Bool) → ((i : ℕ) → i < n → f i ≡ g i) → count n f ≡ count n g
-unfolding count
-count-ext n f g same = total-ext n _ _ (λ i h. ap (λ (b : Bool). cond b 1 0) (same i h))
 
 module _ (a b : ℕ) (f g : ℕ → Bool) (longer : a ≤ b) (same : (i : ℕ) → i < a → g i ≡ f i) where
   -- where the counts are equal, no number behind the front has the property

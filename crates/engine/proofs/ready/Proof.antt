@@ -7,7 +7,8 @@ use mathlib.Core.Path.{_≡_, refl, sym, ap}
 use lib.Dec.{eqb}
 use lib.ListN.{getD}
 use borrow.Author.Tests.{eq-eqb, ne-eqb}
-use Rattle.engine.proofs.AllPorts.{every-more, every-not}
+use Rattle.engine.proofs.AllPorts.{every-more}
+use Rattle.rules.proofs.Agreeing.{every-fails}
 use Rattle.rules.specs.Lists.{every}
 use Rattle.engine.specs.Taking.{portOf}
 use borrow.Author.Needs.{needs}
@@ -46,7 +47,7 @@ returns : tie.Need-returns Inv-loop μ-loop
 returns c =
     let a = c .before .before .before .before .before .args in
     let p = c .before .before .before .before .loop .p in
-    sym (every-not (a .count) _ p (c .before .before .before .loop-test .taken) (ap not (eq-eqb (getD (a .len .now) (portOf (a .input .now) (a .n) p) 0) 0 (c .if1 .taken))))
+    sym (every-fails (a .count) _ p (c .before .before .before .loop-test .taken) (ap not (eq-eqb (getD (a .len .now) (portOf (a .input .now) (a .n) p) 0) 0 (c .if1 .taken))))
 
 add-p : tie.Need-add-p Inv-loop μ-loop
 add-p c = search needs
