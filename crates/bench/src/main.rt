@@ -117,18 +117,13 @@ fn say_entries(list: &[u64]) {
 
 // ---- A case
 
-fn wide64(x: u32) -> u64
-    ensures { λ r. ⌜ r ≡ x ⌝ }
-{
-    x as u64
-}
-
 // The number of 8 bytes that starts at byte `at`.
 fn arrival_at(s: &[u8], at: usize) -> u64
     requires { ⌜ at + 8 ≤ length (now s) ⌝ }
 {
     let rest = &s[at..];
-    wide64(fields::field(rest, 0, 32)) * 0x1_0000_0000 + wide64(fields::field(rest, 32, 32))
+    fields::wide64(fields::field(rest, 0, 32)) * 0x1_0000_0000
+        + fields::wide64(fields::field(rest, 32, 32))
 }
 
 // Puts the arrivals of 8 bytes each into the list.

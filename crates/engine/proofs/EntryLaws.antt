@@ -23,7 +23,7 @@ use Rattle.table.specs.declared.Table.{Table}
 use Rattle.table.specs.Laid.{laid, TableOf}
 use Rattle.engine.specs.declared.Machine.{Machine}
 use Rattle.engine.specs.Setup.{faultyBy}
-use Rattle.engine.specs.Steps.{RunOf, Starts, Lawful, runRead}
+use Rattle.engine.specs.Runs.{RunOf, Starts, Lawful, runRead}
 use Rattle.rules.proofs.Agreeing.{lowest-ext}
 use Rattle.engine.proofs.RefusalNumbers.{in-range, case-in-range, network-numbered}
 

@@ -8,7 +8,7 @@ use lib.Dec.{leb, ltb}
 use borrow.Author.Tests.{lt-ltb, le-ltb, le-leb, lt-leb, leb-true, leb-false}
 use Rattle.rules.specs.Lists.{lowest}
 use Rattle.rules.proofs.ListLaws.{by-test, and-both, lowest-only, lowest-none}
-use Rattle.engine.specs.Writes.{nextFrom}
+use Rattle.steps.specs.Writes.{nextFrom}
 
 pub next-none : (n : ℕ) (f : ℕ → Bool) (k : ℕ) → n ≤ k → nextFrom n f k ≡ 64
 unfolding nextFrom

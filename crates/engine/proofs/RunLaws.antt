@@ -16,10 +16,11 @@ use Rattle.rules.proofs.ListLaws.{by-test, true-or-false}
 use Rattle.rules.proofs.Reach.{sound}
 use Rattle.rules.proofs.Arrivals.{Faultless}
 use Rattle.engine.specs.declared.Machine.{Machine}
-use Rattle.engine.specs.Rings.{Cells, Rings}
-use Rattle.engine.specs.Nodes.{Pendings, Sized}
-use Rattle.engine.specs.Represents.{Represents, Cursor}
-use Rattle.engine.specs.Steps.{Able, OnChannels, Before, RunOf, shapeOf, wiresOf, waysOf, startCells, startPendings, Starts, Startable}
+use Rattle.steps.specs.Rings.{Cells, Rings}
+use Rattle.steps.specs.Nodes.{Pendings, Sized}
+use Rattle.steps.specs.Represents.{Represents, Cursor}
+use Rattle.steps.specs.Steps.{Able, OnChannels, Before}
+use Rattle.engine.specs.Runs.{RunOf, shapeOf, wiresOf, waysOf, startCells, startPendings, Starts, Startable}
 
 -- a run of a network before instant t: it has stood still since the last instant done, its words are the first ones of the list, and the
 -- arrays stand for its state

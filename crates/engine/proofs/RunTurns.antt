@@ -15,11 +15,12 @@ use Rattle.rules.proofs.InstantLaws.{instant-goes}
 use Rattle.rules.proofs.Reach.{sound}
 use Rattle.rules.proofs.Idle.{idle-stretch}
 use Rattle.engine.specs.declared.Machine.{Machine}
-use Rattle.engine.specs.declared.Step.{Step}
-use Rattle.engine.specs.Rings.{Cells}
-use Rattle.engine.specs.Nodes.{Pendings}
-use Rattle.engine.specs.Steps.{Before, WentOn, StepSays, RunOf, shapeOf, wiresOf, waysOf}
-use Rattle.engine.proofs.Skips.{Skipped, skips}
+use Rattle.steps.specs.declared.Step.{Step}
+use Rattle.steps.specs.Rings.{Cells}
+use Rattle.steps.specs.Nodes.{Pendings}
+use Rattle.steps.specs.Steps.{Before, WentOn, StepSays}
+use Rattle.engine.specs.Runs.{RunOf, shapeOf, wiresOf, waysOf}
+use Rattle.steps.proofs.Skips.{Skipped, skips}
 use Rattle.engine.proofs.RunLaws.{Runs, Progress, same-room, before-instant, then-reached}
 
 -- a run that has stopped stays so

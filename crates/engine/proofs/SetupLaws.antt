@@ -15,7 +15,7 @@ use Rattle.rules.specs.Lists.{total}
 use Rattle.rules.proofs.ListLaws.{by-test, and-both, true-or-false}
 use Rattle.rules.specs.Instant.{channelIn, timeIn}
 use Rattle.engine.specs.Setup.{faultyBy}
-use Rattle.engine.specs.Taking.{portOf}
+use Rattle.steps.specs.Taking.{portOf}
 
 -- what holds of the value that is stored, and of each entry elsewhere, holds of each entry after
 pub at-set : (P : ℕ → Type 0) (l : List ℕ) (k v i : ℕ) → k < length l → (i ≡ k → P v) → ((i ≡ k → ⊥) → P (getD l i 0)) → P (getD (set l k v) i 0)

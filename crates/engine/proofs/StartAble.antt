@@ -9,9 +9,9 @@ use borrow.Author.Tests.{ne-eqb}
 use Rattle.rules.specs.Kinds.{inputs}
 use Rattle.rules.specs.Network.{Network, Obeys, nodeOf, channelOf}
 use Rattle.table.specs.declared.Network as table
-use Rattle.engine.specs.Taking.{portOf}
-use Rattle.engine.specs.Nodes.{Wires, wires, inputsAt, Readable, Separate}
-use Rattle.engine.proofs.PortLaws.{inputs-few}
+use Rattle.steps.specs.Taking.{portOf}
+use Rattle.steps.specs.Nodes.{Wires, wires, inputsAt, Readable, Separate}
+use Rattle.steps.proofs.PortLaws.{inputs-few}
 use Rattle.engine.proofs.StartFields.{Entries, node-limits}
 use Rattle.engine.proofs.StartWires.{AtPort}
 

@@ -17,8 +17,8 @@ use Rattle.rules.proofs.KindLaws.{signed-pattern}
 use Rattle.rules.proofs.TokenLaws.{AllFit}
 use Rattle.table.specs.Laid.{places, allPlaces, padded}
 use Rattle.table.proofs.Places.{length-places, length-padded}
-use Rattle.engine.specs.Rings.{queueOf}
-use Rattle.engine.proofs.RingLaws.{wrapped-low}
+use Rattle.steps.specs.Rings.{queueOf}
+use Rattle.steps.proofs.RingLaws.{wrapped-low}
 use Rattle.engine.proofs.StartRings.{capacities-climb}
 
 -- the tokens of bits that stand for tokens

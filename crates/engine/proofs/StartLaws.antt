@@ -14,10 +14,10 @@ use Rattle.rules.proofs.ListLaws.{total-ext, length-tab}
 use Rattle.table.specs.declared.Network as table
 use Rattle.table.specs.Laid.{laid, channelArrays}
 use Rattle.engine.specs.declared.Machine.{Machine}
-use Rattle.engine.specs.Writes.{Walk, Climbs}
+use Rattle.steps.specs.Writes.{Walk, Climbs}
 use Rattle.engine.specs.Setup.{innerOf, outerOf}
-use Rattle.engine.specs.Taking.{portOf}
-use Rattle.engine.specs.Steps.{Starts, Lawful}
+use Rattle.steps.specs.Taking.{portOf}
+use Rattle.engine.specs.Runs.{Starts, Lawful}
 use Rattle.engine.proofs.StartFields.{Entries, laid-entries, few-nodes, few-channels}
 use Rattle.engine.proofs.StartStands.{starts-represents}
 use Rattle.engine.proofs.StartWires.{AtPort, at-port, inner-walk, outer-walk, input-port}

@@ -10,7 +10,7 @@ use Rattle.rules.specs.Network.{Network, Obeys, channelOf, capacities}
 use Rattle.rules.proofs.Checks.{fields-of}
 use Rattle.rules.proofs.ListLaws.{total-ext}
 use Rattle.table.specs.declared.Network as table
-use Rattle.engine.specs.Rings.{shape, cells, Placed, Rings}
+use Rattle.steps.specs.Rings.{shape, cells, Placed, Rings}
 use Rattle.engine.proofs.SetupLaws.{sum-within}
 use Rattle.engine.proofs.StartFields.{ChannelLimits, channel-limits, Entries, few-channels}
 

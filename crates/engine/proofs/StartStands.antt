@@ -15,11 +15,11 @@ use Rattle.rules.proofs.Checks.{fields-of}
 use Rattle.rules.proofs.ListLaws.{getD-tab}
 use Rattle.table.specs.declared.Network as table
 use Rattle.table.specs.Laid.{allPlaces, padded}
-use Rattle.engine.specs.Rings.{Shape, Cells, shape, cells, queueOf, heldAt}
-use Rattle.engine.specs.Writes.{never}
-use Rattle.engine.specs.Nodes.{waitingAt}
-use Rattle.engine.specs.Represents.{NextRelease, Represents}
-use Rattle.engine.specs.Steps.{startPendings}
+use Rattle.steps.specs.Rings.{Shape, Cells, shape, cells, queueOf, heldAt}
+use Rattle.steps.specs.Writes.{never}
+use Rattle.steps.specs.Nodes.{waitingAt}
+use Rattle.steps.specs.Represents.{NextRelease, Represents}
+use Rattle.engine.specs.Runs.{startPendings}
 use Rattle.engine.proofs.StartFields.{Entries, node-limits, few-nodes, few-channels}
 use Rattle.engine.proofs.StartRings.{base-at, starts-rings}
 use Rattle.engine.proofs.StartHeld.{signed-patterns, queue-straight, all-places, tokens-at}

@@ -14,11 +14,11 @@ use Rattle.rules.specs.Network.{Network, Obeys, nodeOf, channelOf, isOut, serve
 use Rattle.rules.proofs.ListLaws.{by-test, and-left, and-right, lowest-is}
 use Rattle.table.specs.declared.Network as table
 use Rattle.rules.proofs.Agreeing.{lowest-ext}
-use Rattle.engine.specs.Writes.{nextFrom, Walk}
+use Rattle.steps.specs.Writes.{nextFrom, Walk}
 use Rattle.engine.specs.Setup.{innerOf, outerOf}
-use Rattle.engine.specs.Taking.{portOf}
-use Rattle.engine.specs.Represents.{writesTo}
-use Rattle.engine.proofs.PortLaws.{port-there, read-at}
+use Rattle.steps.specs.Taking.{portOf}
+use Rattle.steps.specs.Represents.{writesTo}
+use Rattle.steps.proofs.PortLaws.{port-there, read-at}
 use Rattle.engine.proofs.StartFields.{Entries, channel-limits, few-nodes}
 
 -- properties that agree below n have the same next numbers, and so the same walk

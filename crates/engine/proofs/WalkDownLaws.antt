@@ -9,7 +9,7 @@ use lib.Dec.{eqb}
 use lib.ListN.{length, getD, set, replicate, length-set, length-replicate, getD-replicate}
 use borrow.Author.Tests.{lt-ltb, le-ltb, eqb-true, eqb-false, eq-eqb, ne-eqb}
 use Rattle.rules.proofs.ListLaws.{by-test, and-both, true-or-false}
-use Rattle.engine.specs.Writes.{nextFrom, Walk, Climbs}
+use Rattle.steps.specs.Writes.{nextFrom, Walk, Climbs}
 use Rattle.engine.specs.Setup.{innerOf}
 use Rattle.engine.proofs.SetupLaws.{at-set}
 use Rattle.engine.proofs.NextLaws.{next-none, next-here, next-behind}

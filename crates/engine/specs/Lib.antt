@@ -1,7 +1,2 @@
-pub mod Rings
-pub mod Writes
-pub mod Taking
-pub mod Nodes
-pub mod Represents
 pub mod Setup
-pub mod Steps
+pub mod Runs

@@ -1,11 +1,10 @@
 -- What is made of a table before the first instant. Assumes nothing.
 use Prim.Native.Nat.{ℕ, _-_}
-use mathlib.Core.Bool.{Bool, cond, not, _&&_, _||_}
+use mathlib.Core.Bool.{Bool, not, _&&_, _||_}
 use mathlib.Core.List.{List}
 use lib.Dec.{eqb, ltb}
-use lib.ListN.{length, getD}
+use lib.ListN.{getD}
 use Rattle.rules.specs.Instant.{channelIn, timeIn}
-use Rattle.engine.specs.Writes.{never}
 
 -- channel c is one that node n writes and a node reads, by the arrays of writers and readers
 abbrev pub innerOf : List ℕ → List ℕ → ℕ → ℕ → Bool
@@ -21,7 +20,3 @@ faultyBy writer channels arrivals i =
     not (ltb (channelIn (getD arrivals i 0)) channels)
     || not (eqb (getD writer (channelIn (getD arrivals i 0)) 0) 63)
     || (ltb 0 i && ltb (timeIn (getD arrivals i 0)) (timeIn (getD arrivals (i - 1) 0)))
-
--- the time of the arrival at an index, or never
-abbrev pub arrivalAt : List ℕ → ℕ → ℕ
-arrivalAt arrivals i = cond (ltb i (length arrivals)) (timeIn (getD arrivals i 0)) never

@@ -1,4 +1,4 @@
--- What a turn of `field` does: one bit more, found without the sum of the field's bit and the turn, which may not fit. Assumes nothing.
+-- What a turn of `value_at` does: one bit more, found without the sum of the field's bit and the turn, which may not fit. Assumes nothing.
 use Prim.Native.Nat.{ℕ, suc, _+_, _-_, _*_, _/_, _%_, _^_, _≤_, _<_}
 use native.Mathlib.Nat.{pow-suc}
 use native.Mathlib.Numerals.{add-one}

@@ -14,7 +14,21 @@ pub enum Bits {
     End,
 }
 
-fn wide(x: u8) -> u32
+// A field as a number that can be an index.
+pub fn wide(x: u32) -> usize
+    ensures { λ r. ⌜ r ≡ x ⌝ }
+{
+    x as usize
+}
+
+// A field as a number of 64 bits.
+pub fn wide64(x: u32) -> u64
+    ensures { λ r. ⌜ r ≡ x ⌝ }
+{
+    x as u64
+}
+
+fn byte(x: u8) -> u32
     ensures { λ r. ⌜ r ≡ x ⌝ }
 {
     x as u32
@@ -25,7 +39,7 @@ fn bit(s: &[u8], i: usize, k: usize) -> u32
     requires { ⌜ (i < length (now s)) × (k < 8) ⌝ }
     ensures { λ r. ⌜ r ≡ getD (now (s .entry)) i 0 / 2 ^ (7 - k) % 2 ⌝ }
 {
-    (wide(s[i]) >> (7 - k)) % 2
+    (byte(s[i]) >> (7 - k)) % 2
 }
 
 // Whether the `width` bits that start at bit `at` are all there.
@@ -38,8 +52,8 @@ pub fn there(s: &[u8], at: usize, width: usize) -> bool
     false
 }
 
-// The field of `width` bits that starts at bit `at`.
-pub fn field(s: &[u8], at: usize, width: usize) -> u32
+// The number that the `width` bits from bit `at` on make.
+fn value_at(s: &[u8], at: usize, width: usize) -> u32
     requires { ⌜ (width ≤ 32) × (at + width ≤ 8 * length (now s)) ⌝ }
     ensures { λ r. ⌜ r ≡ fieldAt (now (s .entry)) at width ⌝ }
 {
@@ -53,16 +67,61 @@ pub fn field(s: &[u8], at: usize, width: usize) -> u32
 }
 
 // The field of `width` bits that starts at bit `at`, or that the bits end. A field of more than 32 bits is never there.
-pub fn take_at(s: &[u8], at: usize, width: usize) -> Bits
+fn take_at(s: &[u8], at: usize, width: usize) -> Bits
     ensures { λ r. ⌜ r ≡ fieldOrEnd (now (s .entry)) at width ⌝ }
 {
     if 32 < width {
         return Bits::End;
     }
     if there(s, at, width) {
-        return Bits::Value(field(s, at, width));
+        return Bits::Value(value_at(s, at, width));
     }
     Bits::End
+}
+
+// A reader of lent bytes: the bytes, and the bit that it stands at.
+pub struct Reader<'a> {
+    pub bytes: &'a [u8],
+    pub at: usize,
+}
+
+// A reader at the first bit.
+pub fn made<'a>(bytes: &'a [u8]) -> Reader<'a>
+    ensures { λ r. ⌜ (r .bytes ≡ bytes .entry) × (r .at ≡ 0) ⌝ }
+{
+    Reader { bytes, at: 0 }
+}
+
+// The reader at another bit.
+pub fn moved<'a>(r: Reader<'a>, at: usize) -> Reader<'a>
+    ensures { λ q. ⌜ (q .bytes ≡ r .entry .bytes) × (q .at ≡ at) ⌝ }
+{
+    Reader { bytes: r.bytes, at }
+}
+
+// The field of `width` bits where the reader stands, or that the bits end.
+pub fn take<'a>(r: Reader<'a>, width: usize) -> Bits
+    ensures { λ x. ⌜ x ≡ fieldOrEnd (now (r .entry .bytes)) (r .entry .at) width ⌝ }
+{
+    take_at(r.bytes, r.at, width)
+}
+
+// The same with plain parameters: a reader is made, moved on and taken from.
+fn taken(s: &[u8], at: usize, width: usize) -> Bits
+    ensures { λ r. ⌜ r ≡ fieldOrEnd (now (s .entry)) at width ⌝ }
+{
+    take(moved(made(s), at), width)
+}
+
+// The field of `width` bits that starts at bit `at`.
+pub fn field(s: &[u8], at: usize, width: usize) -> u32
+    requires { ⌜ (width ≤ 32) × (at + width ≤ 8 * length (now s)) ⌝ }
+    ensures { λ r. ⌜ r ≡ fieldAt (now (s .entry)) at width ⌝ }
+{
+    match taken(s, at, width) {
+        Bits::Value(x) => x,
+        Bits::End => 0,
+    }
 }
 
 // The token that 32 bits stand for, in two's complement.

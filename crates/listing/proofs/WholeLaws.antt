@@ -17,7 +17,7 @@ use Rattle.rules.specs.Table.{Reading, refusal, read, _then_, unless, network}
 use Rattle.rules.specs.Refusals.{Outcome, refused, stopped, ended, outcome, finish, faultyArrival, run, wordsOf, ranSays, runSays}
 use Rattle.rules.specs.Listing.{bytesAt, tableLength, tableIn, horizonIn, arrivalsIn, framed, decimal, line, stopWord, refusedWord, wordLine, lastLine, lines, listing}
 use Rattle.rules.proofs.ListLaws.{by-test}
-use Rattle.engine.specs.Steps.{RunOf}
+use Rattle.engine.specs.Runs.{RunOf}
 use Rattle.engine.proofs.RefusalNumbers.{in-range, case-in-range, network-numbered}
 use Rattle.listing.specs.Text.{wordLines, lastBy}
 

@@ -189,18 +189,6 @@ fn words_of(answer: Ran) -> usize
 
 // ---- The input
 
-fn wide(x: u32) -> usize
-    ensures { λ r. ⌜ r ≡ x ⌝ }
-{
-    x as usize
-}
-
-fn wide64(x: u32) -> u64
-    ensures { λ r. ⌜ r ≡ x ⌝ }
-{
-    x as u64
-}
-
 // Whether an input is well framed.
 fn is_framed(s: &[u8]) -> bool
     ensures { λ r. ⌜ r ≡ framed (now (s .entry)) ⌝ }
@@ -208,7 +196,7 @@ fn is_framed(s: &[u8]) -> bool
     if s.len() < 2 {
         return false;
     }
-    let table = wide(fields::field(s, 0, 16));
+    let table = fields::wide(fields::field(s, 0, 16));
     if 8191 < table {
         return false;
     }
@@ -227,8 +215,8 @@ fn arrival_at(s: &[u8], i: usize) -> u64
     requires { ⌜ (i + 8 ≤ length (now s)) × (i < 65536) ⌝ }
     ensures { λ r. ⌜ r ≡ bytesAt (now (s .entry)) i 8 ⌝ }
 {
-    let high = wide64(fields::field(s, 8 * i, 32));
-    let low = wide64(fields::field(s, 8 * i + 32, 32));
+    let high = fields::wide64(fields::field(s, 8 * i, 32));
+    let low = fields::wide64(fields::field(s, 8 * i + 32, 32));
     high * 0x1_0000_0000 + low
 }
 
@@ -251,9 +239,9 @@ fn list_run(s: &[u8], text: &mut [u8]) -> usize
     requires { ⌜ (framed (now s) ≡ true) × (size ≤ length (now text)) ⌝ }
     ensures { λ r. ⌜ Put (now (text .entry)) 0 (listingRule (now (s .entry))) (now (text .exit)) r ⌝ }
 {
-    let table = wide(fields::field(s, 0, 16));
+    let table = fields::wide(fields::field(s, 0, 16));
     let end = 2 + table;
-    let horizon = wide(fields::field(s, 8 * end, 24));
+    let horizon = fields::wide(fields::field(s, 8 * end, 24));
     let count = (s.len() - (5 + table)) / 8;
     let mut arrivals = [0u64; 2048];
     read_arrivals(s, 5 + table, count, &mut arrivals);

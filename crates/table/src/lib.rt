@@ -86,12 +86,6 @@ struct Channels {
     arrays: ChannelArrays,
 }
 
-fn wide(x: u32) -> usize
-    ensures { λ r. ⌜ r ≡ x ⌝ }
-{
-    x as usize
-}
-
 // Both tests pass.
 fn both(a: bool, b: bool) -> bool
     ensures { λ r. ⌜ r ≡ (a && b) ⌝ }
@@ -125,8 +119,8 @@ fn read_header(s: &[u8]) -> Header
 {
     if fields::there(s, 0, 24) {
         if fields::field(s, 0, 4) == 1 {
-            let nodes = wide(fields::field(s, 4, 6));
-            let channels = wide(fields::field(s, 10, 7));
+            let nodes = fields::wide(fields::field(s, 4, 6));
+            let channels = fields::wide(fields::field(s, 10, 7));
             if counts_ok(nodes, channels) {
                 if fields::field(s, 17, 7) == 0 {
                     return Header::Counts { nodes, channels };
@@ -251,7 +245,7 @@ fn read_nodes(s: &[u8], count: usize) -> Nodes
 fn end_ok(nodes: usize, n: u32) -> bool
     ensures { λ r. ⌜ r ≡ endOk nodes n ⌝ }
 {
-    either(wide(n) < nodes, n == 63)
+    either(fields::wide(n) < nodes, n == 63)
 }
 
 fn channel_ok(nodes: usize, ch: Channel) -> bool
@@ -306,7 +300,7 @@ fn channel_piece(s: &[u8], nodes: usize, c: usize, at: usize, together: usize) -
     if fields::there(s, at, 29) {
         let ch = channel_at(s, at);
         if channel_ok(nodes, ch) {
-            if together + wide(ch.capacity) <= 1024 {
+            if together + fields::wide(ch.capacity) <= 1024 {
                 return ChannelRead::Read(ch);
             }
             return ChannelRead::Refused(Refusal::Capacities(c));
@@ -353,7 +347,7 @@ fn read_channel(
     match p {
         ChannelRead::Refused(why) => ChannelRead::Refused(why),
         ChannelRead::Read(ch) => {
-            let t = read_tokens(s, at + 29, wide(ch.initial), tokens, together);
+            let t = read_tokens(s, at + 29, fields::wide(ch.initial), tokens, together);
             match t {
                 Progress::Refused(why) => ChannelRead::Refused(why),
                 Progress::Done { end: _ } => ChannelRead::Read(ch),
@@ -401,8 +395,8 @@ fn read_channels(s: &[u8], nodes: usize, count: usize) -> Channels
                 port[c] = ch.port;
                 capacity[c] = ch.capacity;
                 initial[c] = ch.initial;
-                at = at + 29 + 32 * wide(ch.initial);
-                together = together + wide(ch.capacity);
+                at = at + 29 + 32 * fields::wide(ch.initial);
+                together = together + fields::wide(ch.capacity);
             }
         }
         c += 1;
@@ -442,7 +436,7 @@ fn inputs(kind: u32) -> u32
     requires { ⌜ kind < 12 ⌝ }
     ensures { λ r. ⌜ r ≡ inputsOf kind ⌝ }
 {
-    INPUTS[wide(kind)]
+    INPUTS[fields::wide(kind)]
 }
 
 // How many of the first `channels` channels serve port `p` of node `n`.
@@ -453,7 +447,7 @@ fn served(reader: &[u32; 64], port: &[u32; 64], channels: usize, n: usize, p: u3
     let mut found = 0;
     let mut c = 0;
     while c < channels {
-        if wide(reader[c]) == n {
+        if fields::wide(reader[c]) == n {
             if port[c] == p {
                 found += 1;
             }

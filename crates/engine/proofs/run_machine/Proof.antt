@@ -9,8 +9,8 @@ use mathlib.Core.Path.{_≡_, refl, _∙_}
 use lib.ListN.{length}
 use Rattle.rules.specs.Network.{Network}
 use Rattle.engine.specs.declared.Machine.{Machine}
-use Rattle.engine.specs.Rings.{cells}
-use Rattle.engine.specs.Nodes.{pendings}
+use Rattle.steps.specs.Rings.{cells}
+use Rattle.steps.specs.Nodes.{pendings}
 use Rattle.engine.proofs.RunLaws.{Runs, Progress, startable-runs, progress-start, same-room, instant-can, run-ends}
 use Rattle.engine.proofs.RunTurns.{moves-on, progress-on, run-full, run-short}
 use borrow.Author.Needs.{needs}

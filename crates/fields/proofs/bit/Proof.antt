@@ -5,11 +5,11 @@ use borrow.Author.Needs.{needs}
 use Rattle.fields.proofs.bit.Statement.{statement}
 use Rattle.fields.proofs.bit.Tie as tie
 
-shared-slice-read-wide : tie.Need-shared-slice-read-wide
-shared-slice-read-wide c = search needs
+shared-slice-read-byte : tie.Need-shared-slice-read-byte
+shared-slice-read-byte c = search needs
 
-wide-requires : tie.Need-wide-requires
-wide-requires c κs = search needs
+byte-requires : tie.Need-byte-requires
+byte-requires c κs = search needs
 
 sub-result : tie.Need-sub-result
 sub-result c = search needs
@@ -21,9 +21,9 @@ shr-result : tie.Need-shr-result
 shr-result c = search needs
 
 returns : tie.Need-returns
-returns c = ap (λ (x : ℕ). x / 2 ^ (7 - c .before .before .before .args .k) % 2) (c .wide .ensures)
+returns c = ap (λ (x : ℕ). x / 2 ^ (7 - c .before .before .before .args .k) % 2) (c .byte .ensures)
 
 pub bit-spec : {M : Type 1} → statement M
 bit-spec =
     tie.close
-    (tie.spec shared-slice-read-wide wide-requires sub-result cast-result shr-result returns)
+    (tie.spec shared-slice-read-byte byte-requires sub-result cast-result shr-result returns)

@@ -1,76 +1,38 @@
--- `fields::field` meets its contract. After i turns the value is the field's first i bits; a turn adds one bit, and twice a field of
--- fewer than 32 bits still fits. What is left of the width falls. Assumes nothing.
-use Prim.Native.Nat.{_≤_, _-_}
-use mathlib.Core.Path.{_≡_, _∙_, ap}
-use native.Mathlib.Omega.{arith}
-use Rattle.fields.proofs.Turn.{field-turn, field-room}
-use Rattle.rules.specs.Table.{fieldAt}
+-- `fields::field` meets its contract: it asks that the bits be there, so by its definition the answer of `taken` is a value, and that value is
+-- the field; the other arm is never reached. Assumes nothing.
+use Prim.Native.Nat.{ℕ, _+_, _*_, _≤_}
+use mathlib.Core.List.{List}
+use mathlib.Core.Path.{_≡_}
+use lib.ListN.{length}
 use borrow.Author.Needs.{needs}
+use borrow.Author.Tests.{le-leb}
+use Rattle.rules.specs.Table.{fieldAt}
+use Rattle.fields.specs.Bits.{fieldOrEnd}
+use Rattle.fields.specs.declared.Bits.{Bits}
 use Rattle.fields.proofs.field.Statement.{statement}
 use Rattle.fields.proofs.field.Tie as tie
 
-abbrev Inv-loop : tie.InvT-loop
-Inv-loop s at width value₀ i₀ value i = (i ≤ width) × (value ≡ fieldAt s at i)
+value-where-there : (s : List ℕ) (at width : ℕ) → width ≤ 32 → at + width ≤ 8 * length s → fieldOrEnd s at width ≡ Bits.Value (fieldAt s at width)
+value-where-there s at width small there = rw (le-leb width 32 small, le-leb (at + width) (8 * length s) there)
 
-abbrev μ-loop : tie.MeasureT-loop
-μ-loop s at width value₀ i₀ value i = width - i
+taken-requires : tie.Need-taken-requires
+taken-requires c κs = search needs
 
-loop-holds : tie.Need-loop-holds Inv-loop μ-loop
-unfolding fieldAt
-loop-holds c = search needs
+enum-known-x : tie.Need-enum-known-x
+enum-known-x c = search needs
 
-mul-value : tie.Need-mul-value Inv-loop μ-loop
-mul-value c =
-    record { fits = omega (arith, field-room (c .before .before .before .args .s .now) (c .before .before .before .args .at) (c .before .loop .i) (omega arith)) }
+enum-told : tie.Need-enum-told
+enum-told c = search needs
 
-add-bit : tie.Need-add-bit Inv-loop μ-loop
-add-bit c = search needs
-
-add-bit-2 : tie.Need-add-bit-2 Inv-loop μ-loop
-add-bit-2 c = search needs
-
-add-bit-3 : tie.Need-add-bit-3 Inv-loop μ-loop
-add-bit-3 c = search needs
-
-bit-requires : tie.Need-bit-requires Inv-loop μ-loop
-bit-requires c κs = search needs
-
-add-value : tie.Need-add-value Inv-loop μ-loop
-add-value c =
-    record
-    { fits = omega (arith, c .bit .ensures, field-room (c .before .before .before .before .args .s .now) (c .before .before .before .before .args .at) (c .before .before .loop .i) (omega arith)) }
-
-add-i : tie.Need-add-i Inv-loop μ-loop
-add-i c = search needs
-
-loop-less : tie.Need-loop-less Inv-loop μ-loop
-loop-less c = search needs
-
-loop-again : tie.Need-loop-again Inv-loop μ-loop
-loop-again c = (
-  omega arith,
-  field-turn (c .before .before .before .before .args .s .now) (c .before .before .before .before .args .at) (c .before .before .loop .i) _ _ (c .before .before .loop .inv .1) (c .bit .ensures),
-)
-
-returns : tie.Need-returns Inv-loop μ-loop
+returns : tie.Need-returns
 returns c =
-    let all : c .before .loop .i ≡ c .before .before .before .args .width = omega arith in
-    c .before .loop .inv .1 ∙ ap (fieldAt (c .before .before .before .args .s .now) (c .before .before .before .args .at)) all
+    let start = c .before .before .before .before .before in
+    cc (value-where-there (start .args .s .now) (start .args .at) (start .args .width) (start .pre .0) (start .pre .1))
+
+returns-2 : tie.Need-returns-2
+returns-2 c =
+    let start = c .before .before .before .before in
+    cc (value-where-there (start .args .s .now) (start .args .at) (start .args .width) (start .pre .0) (start .pre .1))
 
 pub field-spec : {M : Type 1} → statement M
-field-spec =
-    tie.close
-    (tie.spec
-    Inv-loop
-    μ-loop
-    loop-holds
-    mul-value
-    add-bit
-    add-bit-2
-    add-bit-3
-    bit-requires
-    add-value
-    add-i
-    loop-less
-    loop-again
-    returns)
+field-spec = tie.close (tie.spec taken-requires enum-known-x enum-told returns returns-2)

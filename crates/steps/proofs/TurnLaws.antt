@@ -1,0 +1,74 @@
+-- What a node's turn to read stores is what it should: its state after a release, its result written, or nothing. Assumes nothing.
+use Prim.Native.Nat.{ℕ, _<_, min}
+use native.Mathlib.Omega.{arith}
+use mathlib.Core.Bool.{Bool, true, false, not, _&&_, and-true, Bool·not-not}
+use mathlib.Core.Path.{_≡_, refl, _∙_, ap}
+use lib.Dec.{eqb}
+use lib.ListN.{getD, set, drop, length-set}
+use lib.Seq.{getD-set-same, getD-set-other, set-getD}
+use borrow.Author.Tests.{eq-eqb, ne-eqb, eqb-false}
+use Rattle.rules.proofs.ListLaws.{by-test}
+use Rattle.steps.specs.declared.Pending.{Pending}
+use Rattle.steps.specs.Rings.{Shape, Cells, Rings, Took, registerAt}
+use Rattle.steps.specs.Writes.{never}
+use Rattle.steps.specs.Taking.{atPort}
+use Rattle.steps.specs.Nodes.{Wires, Pendings, pendings, pendingAt, inputsAt, releasedAt, aheadAt, waitingBy, waitingThen, resultAt, nextThen, soonAt, Sized, Released, Turned}
+use Rattle.steps.proofs.TookLaws.{took-none}
+
+-- the pendings with node n's replaced
+abbrev pub stored : Pendings → ℕ → Pending → Pendings
+stored p n a = pendings (set (p .next) n (a .next)) (set (p .due) n (a .due)) (set (p .value) n (a .value))
+
+pub stored-same : (p : Pendings) (n : ℕ) → stored p n (pendingAt p n) ≡ p
+stored-same p n = λ i.
+    record { next = set-getD (p .next) n 0 i; due = set-getD (p .due) n 0 i; value = set-getD (p .value) n 0 i }
+
+module _ {w : Wires} {s : Shape} {x : Cells} {p : Pendings} {t n : ℕ} (sized : Sized p) (few : n < 32) where
+  -- what is stored for node n is what its turn makes of it
+  turned : {y : Cells} (a : Pending) {m : ℕ} → Took s x (λ c. (aheadAt w s x p t n && atPort (w .input) n (inputsAt w n) c) && not (registerAt s c)) y → waitingBy (a .due) (a .value) ≡ waitingThen w s x p t n → a .next ≡ nextThen w p t n → m ≡ min (a .next) (a .due) → Turned w s x p t n y (stored p n a) m
+  turned {y} a {m} took waits next soon =
+      let at-next : getD (set (p .next) n (a .next)) n 0 ≡ a .next = getD-set-same (p .next) n (a .next) 0 (omega arith) in
+      let at-due : getD (set (p .due) n (a .due)) n 0 ≡ a .due = getD-set-same (p .due) n (a .due) 0 (omega arith) in
+      let at-value : getD (set (p .value) n (a .value)) n 0 ≡ a .value = getD-set-same (p .value) n (a .value) 0 (omega arith) in
+      record {
+        took = took;
+        nexts = length-set (p .next) n (a .next) ∙ sized .nexts;
+        dues = length-set (p .due) n (a .due) ∙ sized .dues;
+        values = length-set (p .value) n (a .value) ∙ sized .values;
+        waits = rw (at-due, at-value) waits;
+        next = at-next ∙ next;
+        others = λ k h.
+            rw (getD-set-other (p .next) n k (a .next) 0 (eqb-false k n h), getD-set-other (p .due) n k (a .due) 0 (eqb-false k n h), getD-set-other (p .value) n k (a .value) 0 (eqb-false k n h));
+        soon = rw (at-next, at-due) soon;
+      }
+
+  -- node n is released
+  pub turned-released : {y : Cells} {a : Pending} {m : ℕ} → getD (p .next) n 0 ≡ t → Released s x (w .input) n (getD (w .kind) n 0) (getD (w .constant) n 0) (getD (w .period) n 0) (getD (w .deadline) n 0) (pendingAt p n) y a → m ≡ min (a .next) (a .due) → Turned w s x p t n y (stored p n a) m
+  unfolding waitingThen resultAt
+  turned-released {y} {a} {m} h r soon =
+      let now : releasedAt p t n ≡ true = eq-eqb (getD (p .next) n 0) t h in
+      turned a (rw now (r .took)) (rw now (rw h at (r .waits))) (rw now (rw h at (r .next))) soon
+
+  -- its result is written
+  pub turned-due : {a : Pending} {m : ℕ} → Rings s x → (getD (p .next) n 0 ≡ t → ⊥) → getD (p .due) n 0 ≡ t → a ≡ record { next = getD (p .next) n 0; due = never; value = getD (p .value) n 0 } → m ≡ min (a .next) (a .due) → Turned w s x p t n x (pendings (p .next) (set (p .due) n (a .due)) (p .value)) m
+  unfolding waitingThen
+  turned-due {a} rings later due written soon =
+      let still : releasedAt p t n ≡ false = ne-eqb (getD (p .next) n 0) t later in
+      let now : eqb (getD (p .due) n 0) t ≡ true = eq-eqb (getD (p .due) n 0) t due in
+      rw written
+      (rw (set-getD (p .next) n 0, set-getD (p .value) n 0) at
+      (turned {y = x} (record { next = getD (p .next) n 0; due = never; value = getD (p .value) n 0 }) (rw still (took-none rings)) (rw (still, now)) (rw still) (rw written at soon)))
+
+  -- nothing happens to it
+  pub turned-idle : {m : ℕ} → Rings s x → (getD (p .next) n 0 ≡ t → ⊥) → (getD (p .due) n 0 ≡ t → ⊥) → m ≡ soonAt p n → Turned w s x p t n x p m
+  unfolding waitingThen
+  turned-idle rings later waiting soon =
+      let still : releasedAt p t n ≡ false = ne-eqb (getD (p .next) n 0) t later in
+      let stays : eqb (getD (p .due) n 0) t ≡ false = ne-eqb (getD (p .due) n 0) t waiting in
+      rw (stored-same p n) at
+      (turned {y = x} (pendingAt p n) (rw still (took-none rings)) (rw (still, stays)) (rw still) soon)
+
+  -- and so where it is before its next release and before its result is due
+  pub turned-early : {m : ℕ} → Rings s x → t < m → m ≡ soonAt p n → Turned w s x p t n x p m
+  turned-early rings early soon =
+      turned-idle rings (λ e. omega (arith, early, soon, e)) (λ e. omega (arith, early, soon, e)) soon

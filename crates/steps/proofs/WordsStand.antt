@@ -1,0 +1,101 @@
+-- The words of an instant are those of the rules: for each channel to the outside what its writer has due, since nothing arrives there.
+-- Assumes nothing.
+use Prim.Native.Nat.{ℕ, zero, suc, _+_, _≤_, _<_, _^_}
+use native.Mathlib.Nat.{zero-add, add-zero, suc-add, add-suc}
+use native.Mathlib.Omega.{arith}
+use mathlib.Core.Bool.{Bool, true, cond, _&&_, and-false}
+use mathlib.Core.List.{List, [], _∷_, _++_, map, append-nil, append-assoc}
+use mathlib.Core.Path.{_≡_, refl, sym, _∙_, ap, ap₂}
+use lib.Dec.{eqb, leb, ltb}
+use lib.ListN.{length, getD, take}
+use borrow.Author.Tests.{ltb-true, lt-ltb, leb-true}
+use Rattle.rules.specs.declared.Channel.{Channel}
+use Rattle.rules.specs.Lists.{tabFrom, tab, joined}
+use Rattle.rules.specs.Kinds.{signed}
+use Rattle.rules.specs.Network.{Network, Obeys, channelOf, outside, isOut, countsOk, channelOk}
+use Rattle.rules.specs.Instant.{State, dueNow, word, written, outWords}
+use Rattle.rules.proofs.ListLaws.{by-test, true-or-false}
+use Rattle.rules.proofs.Sound.{Sound}
+use Rattle.rules.proofs.Arrivals.{Faultless, none-arrives}
+use Rattle.steps.specs.Rings.{Shape, Cells}
+use Rattle.steps.specs.Writes.{wordsBelow, Gathered}
+use Rattle.steps.specs.Nodes.{Wires, Pendings, waitingBy}
+use Rattle.steps.specs.Represents.{Ways, Wired, Represents}
+use Rattle.steps.proofs.DueLaws.{due-of-waiting}
+
+-- lists made by index, one after another: the last one stands at the end
+module _ {A : Type 0} (f : ℕ → List A) where
+  joined-from : (i n : ℕ) → joined (tabFrom f i (suc n)) ≡ joined (tabFrom f i n) ++ f (i + n)
+  unfolding joined tabFrom
+  joined-from i zero = append-nil (f i) ∙ ap f (sym (add-zero i))
+  joined-from i (suc n) =
+      ap (λ (l : List A). f i ++ l) (joined-from (suc i) n)
+      ∙ sym (append-assoc (f i) (joined (tabFrom f (suc i) n)) (f (suc i + n)))
+      ∙ ap (λ (k : ℕ). (f i ++ joined (tabFrom f (suc i) n)) ++ f k) (suc-add i n ∙ sym (add-suc i n))
+
+  joined-last : (n : ℕ) → joined (tab (suc n) f) ≡ joined (tab n f) ++ f n
+  unfolding tab
+  joined-last n = joined-from 0 n ∙ ap (λ (k : ℕ). joined (tabFrom f 0 n) ++ f k) (zero-add n)
+
+-- the words of channel c, by its writer
+abbrev wordsOf : ℕ → List ℕ → List ℕ → List ℕ → (ℕ → Bool) → ℕ → List ℕ
+wordsOf t writer due value outs c =
+    cond (outs c && (ltb (getD writer c 0) 32 && eqb (getD due (getD writer c 0) 0) t)) (word c t (signed (getD value (getD writer c 0) 0)) ∷ []) []
+
+words-joined : (t : ℕ) (writer due value : List ℕ) (outs : ℕ → Bool) (f : ℕ → List ℕ) (n : ℕ)
+    → ((c : ℕ) → c < n → wordsOf t writer due value outs c ≡ f c) → wordsBelow n t writer due value outs ≡ joined (tab n f)
+unfolding wordsBelow joined tab tabFrom
+words-joined t writer due value outs f zero same = refl
+words-joined t writer due value outs f (suc n) same =
+    ap₂ _++_ (words-joined t writer due value outs f n (λ c h. same c (omega arith))) (same n (omega arith)) ∙ sym (joined-last f n)
+
+-- a channel to the outside is written by a node
+out-writer : (nodes : ℕ) (ch : Channel) → channelOk nodes ch ≡ true → isOut ch ≡ true → ch .writer < nodes
+unfolding channelOk
+out-writer nodes ch ok out =
+    by-test (ltb (ch .writer) nodes) (λ e. ltb-true (ch .writer) nodes e)
+    (λ e.
+    by-test (eqb (ch .writer) outside)
+    (λ o. true-or-false (simp (o, out, and-false) at ok) refl)
+    (λ o. true-or-false (simp (e, o) at ok) refl))
+
+few-nodes : (net : Network) → Obeys net → length (net .nodes) ≤ 32
+unfolding countsOk
+few-nodes net obeys =
+    by-test (leb (length (net .nodes)) 32) (λ e. leb-true (length (net .nodes)) 32 e)
+    (λ e. true-or-false (simp (e, and-false) at (obeys .counts)) refl)
+
+-- the word of what is due of what waits
+word-of-waiting : (c due value t : ℕ) → t < 2 ^ 24 → cond (eqb due t) (word c t (signed value) ∷ []) [] ≡ map (word c t) (dueNow (waitingBy due value) t)
+word-of-waiting c due value t early =
+    by-test (eqb due t) (λ e. rw e) (λ e. rw e) ∙ ap (map (word c t)) (due-of-waiting due value t early)
+
+module _ (net : Network) (arrivals : List ℕ) (t : ℕ) (st : State) (s : Shape) (w : Wires) (v : Ways) (x : Cells) (p : Pendings) (obeys : Obeys net) (faultless : Faultless net arrivals) (early : t < 2 ^ 24) (wired : Wired net s w v) (rep : Represents net s t st x p) where
+  words-by-rules : (c : ℕ) → c < length (net .channels)
+      → wordsOf t (v .writer) (p .due) (p .value) (λ d. isOut (channelOf net d)) c ≡ cond (isOut (channelOf net c)) (map (word c t) (written net arrivals t st c)) []
+  unfolding written
+  words-by-rules c below =
+      by-test (isOut (channelOf net c))
+      (λ e.
+      let n = channelOf net c .writer in
+      let inside : n < length (net .nodes) = out-writer (length (net .nodes)) (channelOf net c) (obeys .channelFields c below) e in
+      let few : n < 32 = omega (arith, few-nodes net obeys) in
+      rw (e, wired .writer c below, lt-ltb n 32 few, none-arrives net arrivals obeys faultless t c below e, append-nil, rep .waits n inside)
+      (word-of-waiting c (getD (p .due) n 0) (getD (p .value) n 0) t early))
+      (λ e. rw e)
+
+pub words-stand :
+    (net : Network) (arrivals : List ℕ) (t : ℕ) (st : State) (s : Shape) (w : Wires) (v : Ways) (x : Cells) (p : Pendings) (words : List ℕ) (count : ℕ)
+    → Obeys net
+    → Faultless net arrivals
+    → t < 2 ^ 24
+    → Sound net t st
+    → Wired net s w v
+    → Represents net s t st x p
+    → Gathered (length (net .channels)) t (v .followOut) (v .firstOut) (v .writer) (p .due) (p .value) words count
+    → take count words ≡ outWords net arrivals t st
+unfolding outWords
+words-stand net arrivals t st s w v x p words count obeys faultless early sound wired rep gathered =
+    gathered .gathers (λ c. isOut (channelOf net c)) (wired .outs)
+    ∙ words-joined t (v .writer) (p .due) (p .value) (λ c. isOut (channelOf net c)) _ (length (net .channels))
+    (words-by-rules net arrivals t st s w v x p obeys faultless early wired rep)
