@@ -12,3 +12,4 @@ pub mod RefusalNumbers
 pub mod EntryLaws
 pub mod RunLaws
 pub mod RunTurns
+pub mod Settled

@@ -1,3 +1,4 @@
 pub mod Turn
 pub mod Signs
 pub mod Readers
+pub mod Settled

@@ -3,3 +3,4 @@ pub mod DecimalLaws
 pub mod LineLaws
 pub mod InputLaws
 pub mod WholeLaws
+pub mod Settled

@@ -17,3 +17,5 @@ pub mod Idle
 pub mod WordLaws
 pub mod Arrivals
 pub mod Order
+pub mod Settle
+pub mod SaysOnce

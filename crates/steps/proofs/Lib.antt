@@ -27,3 +27,5 @@ pub mod ReadsStand
 pub mod SoonLaws
 pub mod Skips
 pub mod StepLaws
+pub mod StepOnce
+pub mod Settled

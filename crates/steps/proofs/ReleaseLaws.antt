@@ -18,7 +18,7 @@ use Rattle.steps.specs.Nodes.{Wires, Pendings, waitingBy, nextThen}
 use Rattle.steps.specs.Represents.{NextRelease}
 
 -- two multiples of a period are at least a period apart
-multiples-apart : (period a b : ℕ) → a % period ≡ 0 → b % period ≡ 0 → a < b → a + period ≤ b
+pub multiples-apart : (period a b : ℕ) → a % period ≡ 0 → b % period ≡ 0 → a < b → a + period ≤ b
 multiples-apart period a b one other less =
     let low = div-add-mod' a period in
     let high = div-add-mod' b period in

@@ -8,3 +8,4 @@ pub mod Extents
 pub mod ChannelTurn
 pub mod Ports
 pub mod Whole
+pub mod Settled

@@ -1,0 +1,125 @@
+// The C interface: the two entry points under plain names, with the paper's number as the answer and each further value through a pointer.
+// include/tunebobbin.h is the same for a reader of C.
+ghost use mathlib.Core.Path.{_≡_};
+ghost use lib.ListN.{length};
+ghost use Rattle.rules.specs.Refusals.{numberOf, placeOf, check as checkRule, run as runRule, runSays, listAfter};
+use rules::Checked;
+use rules::Ran;
+use rules::Refusal;
+
+// The paper's number of a refusal.
+fn number_of(why: Refusal) -> usize
+    ensures { λ r. ⌜ r ≡ numberOf why ⌝ }
+{
+    match why {
+        Refusal::BitsEnd(_) => 1,
+        Refusal::Version => 2,
+        Refusal::Counts => 3,
+        Refusal::NodeField(_) => 4,
+        Refusal::ChannelField(_) => 5,
+        Refusal::Capacities(_) => 6,
+        Refusal::Leftover => 7,
+        Refusal::Ports(_) => 8,
+        Refusal::Horizon => 9,
+        Refusal::Arrival(_) => 10,
+    }
+}
+
+// The place of a refusal.
+fn place_of(why: Refusal) -> usize
+    ensures { λ r. ⌜ r ≡ placeOf why ⌝ }
+{
+    match why {
+        Refusal::BitsEnd(bit) => bit,
+        Refusal::Version => 0,
+        Refusal::Counts => 0,
+        Refusal::NodeField(node) => node,
+        Refusal::ChannelField(channel) => channel,
+        Refusal::Capacities(channel) => channel,
+        Refusal::Leftover => 0,
+        Refusal::Ports(node) => node,
+        Refusal::Horizon => 0,
+        Refusal::Arrival(index) => index,
+    }
+}
+
+// The check of a table: answers the number, 0 for a table that is taken, and writes the place and both counts.
+#[no_mangle]
+pub extern "C" fn tunebobbin_check(
+    table: &[u8],
+    place: &mut usize,
+    nodes: &mut usize,
+    channels: &mut usize,
+) -> usize
+    ensures { λ r. ⌜ record { number = r; place = now (place .exit); nodes = now (nodes .exit); channels = now (channels .exit) } ≡ checkRule (now (table .entry)) ⌝ }
+{
+    let answer = table::check(table);
+    match answer {
+        Checked::Taken {
+            nodes: n,
+            channels: c,
+        } => {
+            *place = 0;
+            *nodes = n;
+            *channels = c;
+            0
+        }
+        Checked::Refused(why) => {
+            *place = place_of(why);
+            *nodes = 0;
+            *channels = 0;
+            number_of(why)
+        }
+    }
+}
+
+// A run of a table: answers the number, 0 where the horizon was reached, and writes the place or the instant, the channel and the count
+// of words, which stand in front of the list.
+#[no_mangle]
+pub extern "C" fn tunebobbin_run(
+    table: &[u8],
+    horizon: usize,
+    arrivals: &[u64],
+    list: &mut [u64],
+    place: &mut usize,
+    channel: &mut usize,
+    count: &mut usize,
+) -> usize
+    ensures { λ r. ⌜ record { number = r; place = now (place .exit); channel = now (channel .exit); count = now (count .exit) } ≡ runSays (runRule (now (table .entry)) horizon (now (arrivals .entry)) (length (now (list .entry)))) ⌝ }
+    ensures { λ _. ⌜ now (list .exit) ≡ listAfter (runRule (now (table .entry)) horizon (now (arrivals .entry)) (length (now (list .entry)))) (now (list .entry)) ⌝ }
+{
+    let answer = engine::run(table, horizon, arrivals, list);
+    match answer {
+        Ran::End { count: words } => {
+            *place = 0;
+            *channel = 0;
+            *count = words;
+            0
+        }
+        Ran::Overfull {
+            count: words,
+            instant,
+            channel: full,
+        } => {
+            *place = instant;
+            *channel = full;
+            *count = words;
+            11
+        }
+        Ran::NoRoom {
+            count: words,
+            instant,
+        } => {
+            *place = instant;
+            *channel = 0;
+            *count = words;
+            12
+        }
+        Ran::Refused(why) => {
+            *place = place_of(why);
+            *channel = 0;
+            *count = 0;
+            number_of(why)
+        }
+    }
+}
