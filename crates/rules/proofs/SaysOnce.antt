@@ -11,7 +11,7 @@ use Rattle.rules.specs.Refusals.{numberOf, placeOf, CheckSays, checkedSa
 use Rattle.rules.proofs.Settle.{Once, once-by}
 
 -- of answers in the order of their numbers, the one with a number: that of number 0, the refusals with a place, then the others
-abbrev numbered : {A : Type 0} → A → (Refusal → A) → ℕ → List A → ℕ → A
+abbrev pub numbered : {A : Type 0} → A → (Refusal → A) → ℕ → List A → ℕ → A
 numbered none refused place others number =
     getD
     (none
@@ -30,7 +30,7 @@ numbered none refused place others number =
     none
 
 -- a refusal is found by its number and place
-refusal-found : {A : Type 0} (none : A) (refused : Refusal → A) (others : List A) (why : Refusal) → numbered none refused (placeOf why) others (numberOf why) ≡ refused why
+pub refusal-found : {A : Type 0} (none : A) (refused : Refusal → A) (others : List A) (why : Refusal) → numbered none refused (placeOf why) others (numberOf why) ≡ refused why
 refusal-found none refused others (Refusal.BitsEnd place) = refl
 refusal-found none refused others Refusal.Version = refl
 refusal-found none refused others Refusal.Counts = refl

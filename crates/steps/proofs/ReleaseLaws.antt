@@ -9,7 +9,8 @@ use lib.Dec.{eqb, ltb}
 use lib.ListN.{getD}
 use borrow.Author.Tests.{ltb-true, ltb-false, eqb-true, eqb-false, eq-eqb, ne-eqb}
 use Rattle.rules.specs.declared.Node.{Node}
-use Rattle.rules.specs.Instant.{Waiting, isDue}
+use Rattle.rules.specs.Kinds.{signed}
+use Rattle.rules.specs.Instant.{Waiting, isDue, waitFor}
 use Rattle.rules.proofs.ListLaws.{by-test}
 use Rattle.rules.proofs.Checks.{NodeFields}
 use Rattle.rules.proofs.Sound.{Due}
@@ -79,6 +80,10 @@ due-at-release node t (some w) due multiple =
     let apart = multiples-apart (node .period) (d .release) t (d .multiple) multiple (d .begun) in
     let now : w .due ≡ t = omega (arith, apart, d .within, d .still) in
     rw (eq-eqb (w .due) t now)
+
+-- a result waits by its due instant, which is not `never`, and its bits
+pub waits-by : (due value : ℕ) → due < never → waitingBy due value ≡ waitFor due (some (signed value))
+waits-by due value early = rw (ne-eqb due never (λ e. omega (arith, early, e)))
 
 -- what is due now goes, by its due instant as by its entry
 pub due-goes : (t due value : ℕ) → cond (isDue (waitingBy due value) t) none (waitingBy due value) ≡ cond (eqb due t) none (waitingBy due value)

@@ -13,10 +13,11 @@ use Rattle.rules.specs.Network.{channelAmong}
 use Rattle.rules.specs.Table.{Reading, refusal, read, _then_, withChannel, tokensUpTo, channelPiece, channelsUpTo}
 use Rattle.rules.proofs.Pieces.{tokens-count}
 use Rattle.rules.proofs.ReadingLaws.{channels-refused}
-use Rattle.table.specs.declared.ChannelRead.{ChannelRead}
+use Rattle.pieces.specs.declared.ChannelRead.{ChannelRead}
 use Rattle.table.specs.declared.ChannelArrays.{ChannelArrays}
 use Rattle.table.specs.Laid.{allPlaces, padded, channelArrays}
-use Rattle.table.specs.Reads.{refusedBy, ChannelDone, ChannelWithTokens, ChannelsDone}
+use Rattle.pieces.specs.Says.{refusedBy}
+use Rattle.table.specs.Reads.{ChannelDone, ChannelWithTokens, ChannelsDone}
 use Rattle.table.proofs.Extents.{Extent, channels-extent}
 use Rattle.table.proofs.LaidLaws.{laid-next}
 use Rattle.table.proofs.Piece.{channel-room}

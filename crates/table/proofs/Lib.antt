@@ -1,4 +1,3 @@
-pub mod Tests
 pub mod LaidLaws
 pub mod NodeTurn
 pub mod Tokens

@@ -15,7 +15,8 @@ use Rattle.rules.proofs.Pieces.{nodes-count}
 use Rattle.rules.proofs.ReadingLaws.{nodes-refused}
 use Rattle.table.specs.declared.NodeArrays.{NodeArrays}
 use Rattle.table.specs.Laid.{nodeArrays}
-use Rattle.table.specs.Reads.{NodesDone, refusedBy}
+use Rattle.pieces.specs.Says.{refusedBy}
+use Rattle.table.specs.Reads.{NodesDone}
 use Rattle.table.proofs.LaidLaws.{laid-next}
 
 -- no node is read yet, and the arrays are all zero

@@ -10,9 +10,10 @@ use Rattle.rules.specs.Network.{channelOk}
 use Rattle.rules.specs.Table.{read, channelAt, channelPiece}
 use Rattle.rules.proofs.Checks.{channel-fields}
 use Rattle.rules.proofs.ReadingLaws.{Gives, unless-gives, unless-then-gives, piece-then-gives}
-use Rattle.table.specs.declared.ChannelRead.{ChannelRead}
+use Rattle.pieces.specs.declared.ChannelRead.{ChannelRead}
 use Rattle.table.specs.declared.Progress.{Progress}
-use Rattle.table.specs.Reads.{refusedBy, channelSays, TokensRead, ChannelDone, ChannelWithTokens}
+use Rattle.pieces.specs.Says.{refusedBy, channelSays}
+use Rattle.table.specs.Reads.{TokensRead, ChannelDone, ChannelWithTokens}
 
 -- a channel behind others that take so many places: its own places are there, and its tokens have room in them
 pub record Room (together : ℕ) (ch : Channel) : Type 0 where

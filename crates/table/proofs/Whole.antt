@@ -17,13 +17,14 @@ use Rattle.rules.specs.Network.{nodeAmong, countsOk, nodeOk}
 use Rattle.rules.specs.Table.{read, _then_, unless, headerAt, endsAt, faultyNode, network}
 use Rattle.rules.proofs.ListLaws.{by-test, true-or-false, and-left, and-right, getD-tab}
 use Rattle.rules.proofs.Pieces.{header-read, nodes-read, nodes-count, channels-count}
-use Rattle.table.specs.declared.Header.{Header}
+use Rattle.pieces.specs.declared.Header.{Header}
 use Rattle.table.specs.declared.Progress.{Progress}
 use Rattle.table.specs.declared.NodeArrays.{NodeArrays}
 use Rattle.table.specs.declared.ChannelArrays.{ChannelArrays}
 use Rattle.table.specs.declared.Table.{Table}
 use Rattle.table.specs.Laid.{nodeArrays, laid, refusedTable, TableOf}
-use Rattle.table.specs.Reads.{refusedBy, headerSays, NodesDone, NodesRead, ChannelsDone, ChannelsRead, faultyIn}
+use Rattle.pieces.specs.Says.{refusedBy, headerSays}
+use Rattle.table.specs.Reads.{NodesDone, NodesRead, ChannelsDone, ChannelsRead, faultyIn}
 use Rattle.table.proofs.Extents.{channels-extent}
 use Rattle.table.proofs.Ports.{faulty-lowest}
 

@@ -9,35 +9,16 @@ use lib.ListN.{getD}
 use lib.Seq.{sets}
 use Rattle.rules.specs.declared.Node.{Node}
 use Rattle.rules.specs.declared.Channel.{Channel}
-use Rattle.rules.specs.declared.Refusal.{Refusal}
 use Rattle.rules.specs.Lists.{count, every}
 use Rattle.rules.specs.Kinds.{pattern, inputs}
 use Rattle.rules.specs.Table as rules
-use Rattle.rules.specs.Table.{Reading, refusal, read, _then_, nodesUpTo, tokensUpTo, channelPiece, channelsUpTo}
-use Rattle.rules.specs.Refusals.{numberOf, placeOf}
-use Rattle.table.specs.declared.Header.{Header}
-use Rattle.table.specs.declared.NodeRead.{NodeRead}
-use Rattle.table.specs.declared.ChannelRead.{ChannelRead}
+use Rattle.rules.specs.Table.{read, _then_, nodesUpTo, tokensUpTo, channelPiece, channelsUpTo}
+use Rattle.pieces.specs.declared.ChannelRead.{ChannelRead}
+use Rattle.pieces.specs.Says.{refusedBy}
 use Rattle.table.specs.declared.Progress.{Progress}
 use Rattle.table.specs.declared.NodeArrays.{NodeArrays}
 use Rattle.table.specs.declared.ChannelArrays.{ChannelArrays}
 use Rattle.table.specs.Laid.{nodeArrays, channelArrays}
-
--- a refusal by its number and place
-abbrev pub refusedBy : {A : Type 0} → Refusal → Reading A
-refusedBy why = refusal (numberOf why) (placeOf why)
-
-abbrev pub headerSays : Header → Reading rules.Header
-headerSays (Header.Counts nodes channels) = read (record { nodes = nodes; channels = channels })
-headerSays (Header.Refused why) = refusedBy why
-
-abbrev pub nodeSays : NodeRead → Reading Node
-nodeSays (NodeRead.Read node) = read node
-nodeSays (NodeRead.Refused why) = refusedBy why
-
-abbrev pub channelSays : ChannelRead → Reading Channel
-channelSays (ChannelRead.Read ch) = read ch
-channelSays (ChannelRead.Refused why) = refusedBy why
 
 -- the first n nodes are read and laid out
 pub record NodesDone (s : List ℕ) (n : ℕ) (arrays : NodeArrays) : Type 0 where

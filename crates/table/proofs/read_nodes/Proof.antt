@@ -8,7 +8,8 @@ use mir.Syntax.{w32}
 use mir.ValLaws.{toZ-ofZ}
 use borrow.Author.Needs.{needs}
 use Rattle.rules.specs.Kinds.{pattern}
-use Rattle.table.specs.Reads.{NodesDone, nodeSays}
+use Rattle.pieces.specs.Says.{nodeSays}
+use Rattle.table.specs.Reads.{NodesDone}
 use Rattle.table.proofs.NodeTurn.{no-nodes, node-turn, node-refused}
 use Rattle.table.proofs.read_nodes.Statement.{statement}
 use Rattle.table.proofs.read_nodes.Tie as tie

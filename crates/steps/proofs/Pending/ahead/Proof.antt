@@ -4,8 +4,7 @@ use Prim.Native.Nat.{_+_}
 use mathlib.Core.Path.{refl}
 use native.Mathlib.Omega.{arith}
 use borrow.Author.Needs.{needs}
-use borrow.Author.Tests.{ne-eqb}
-use Rattle.steps.specs.Writes.{never}
+use Rattle.steps.proofs.ReleaseLaws.{waits-by}
 use Rattle.steps.proofs.Pending.ahead.Statement.{statement}
 use Rattle.steps.proofs.Pending.ahead.Tie as tie
 
@@ -18,7 +17,7 @@ add-t7 c = search needs
 returns : tie.Need-returns
 returns c =
     let at = c .before .before .before .args in
-    (refl, rw (c .before .if1 .taken, ne-eqb (at .self .next + at .deadline) never (omega arith)))
+    (refl, rw (c .before .if1 .taken) (waits-by (at .self .next + at .deadline) (at .made .value) (omega arith)))
 
 returns-2 : tie.Need-returns-2
 returns-2 c = (refl, rw (c .if1 .left))

@@ -1,13 +1,13 @@
--- `table::node_piece` meets its contract: once the bits are there, the piece is the node or refusal 4, by the test of its fields; if they
+-- `pieces::node_piece` meets its contract: once the bits are there, the piece is the node or refusal 4, by the test of its fields; if they
 -- are not, it is refusal 1. Assumes nothing.
 use Prim.Native.Nat.{_+_, _*_}
 use native.Mathlib.Omega.{arith}
 use mathlib.Core.Path.{_≡_}
 use Rattle.rules.specs.Table.{unless, nodePiece}
-use Rattle.table.proofs.Tests.{bits-there}
+use Rattle.pieces.proofs.Tests.{bits-there}
 use borrow.Author.Needs.{needs}
-use Rattle.table.proofs.node_piece.Statement.{statement}
-use Rattle.table.proofs.node_piece.Tie as tie
+use Rattle.pieces.proofs.node_piece.Statement.{statement}
+use Rattle.pieces.proofs.node_piece.Tie as tie
 
 mul-at : tie.Need-mul-at
 mul-at c = search needs

@@ -1,8 +1,8 @@
--- `table::counts_ok` meets its contract: its tests are those of the definition. Assumes nothing.
+-- `pieces::counts_ok` meets its contract: its tests are those of the definition. Assumes nothing.
 use Rattle.rules.specs.Network.{countsOk}
 use borrow.Author.Needs.{needs}
-use Rattle.table.proofs.counts_ok.Statement.{statement}
-use Rattle.table.proofs.counts_ok.Tie as tie
+use Rattle.pieces.proofs.counts_ok.Statement.{statement}
+use Rattle.pieces.proofs.counts_ok.Tie as tie
 
 both-requires : tie.Need-both-requires
 both-requires c κs = search needs

@@ -1,4 +1,4 @@
--- `table::read_header` meets its contract: the tests are those of the definition in its order, the bits, the version, and then the counts
+-- `pieces::read_header` meets its contract: the tests are those of the definition in its order, the bits, the version, and then the counts
 -- and the spare bits together. Assumes nothing.
 use Prim.Native.Nat.{_*_, _≤_}
 use native.Mathlib.Omega.{arith}
@@ -7,11 +7,11 @@ use mathlib.Core.Path.{_≡_}
 use lib.Dec.{eqb}
 use lib.ListN.{length}
 use Rattle.rules.specs.Table.{fieldAt, unless, headerAt}
-use Rattle.table.proofs.Tests.{bits-there}
+use Rattle.pieces.proofs.Tests.{bits-there}
 use borrow.Author.Needs.{needs}
 use borrow.Author.Tests.{ne-eqb}
-use Rattle.table.proofs.read_header.Statement.{statement}
-use Rattle.table.proofs.read_header.Tie as tie
+use Rattle.pieces.proofs.read_header.Statement.{statement}
+use Rattle.pieces.proofs.read_header.Tie as tie
 
 there-requires : tie.Need-there-requires
 there-requires c κs = search needs

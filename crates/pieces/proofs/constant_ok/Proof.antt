@@ -1,10 +1,10 @@
--- `table::constant_ok` meets its contract: its tests are those of the definition, one after another, and a token is 0 exactly where its
+-- `pieces::constant_ok` meets its contract: its tests are those of the definition, one after another, and a token is 0 exactly where its
 -- bits are. Assumes nothing.
 use borrow.Author.Tests.{ne-eqb}
 use Rattle.rules.specs.Kinds.{constantOk}
-use Rattle.table.proofs.Tests.{zero-by-bits}
-use Rattle.table.proofs.constant_ok.Statement.{statement}
-use Rattle.table.proofs.constant_ok.Tie as tie
+use Rattle.pieces.proofs.Tests.{zero-by-bits}
+use Rattle.pieces.proofs.constant_ok.Statement.{statement}
+use Rattle.pieces.proofs.constant_ok.Tie as tie
 
 returns : tie.Need-returns
 unfolding constantOk

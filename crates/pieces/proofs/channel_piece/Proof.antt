@@ -1,15 +1,15 @@
--- `table::channel_piece` meets its contract: once the bits are there, the piece is refusal 5, refusal 6 or the channel, by the test of
+-- `pieces::channel_piece` meets its contract: once the bits are there, the piece is refusal 5, refusal 6 or the channel, by the test of
 -- its fields and then by the capacities together; if they are not, it is refusal 1. Assumes nothing.
 use Prim.Native.Nat.{_+_}
 use native.Mathlib.Omega.{arith}
 use mathlib.Core.Path.{_≡_}
 use lib.Dec.{leb}
 use Rattle.rules.specs.Table.{_then_, unless, channelPiece}
-use Rattle.table.proofs.Tests.{bits-there}
+use Rattle.pieces.proofs.Tests.{bits-there}
 use borrow.Author.Needs.{needs}
 use borrow.Author.Tests.{le-leb, lt-leb}
-use Rattle.table.proofs.channel_piece.Statement.{statement}
-use Rattle.table.proofs.channel_piece.Tie as tie
+use Rattle.pieces.proofs.channel_piece.Statement.{statement}
+use Rattle.pieces.proofs.channel_piece.Tie as tie
 
 there-requires : tie.Need-there-requires
 there-requires c κs = search needs

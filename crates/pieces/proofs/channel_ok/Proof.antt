@@ -1,8 +1,8 @@
--- `table::channel_ok` meets its contract: its tests are those of the definition. Assumes nothing.
+-- `pieces::channel_ok` meets its contract: its tests are those of the definition. Assumes nothing.
 use borrow.Author.Needs.{needs}
 use Rattle.rules.specs.Network.{channelOk}
-use Rattle.table.proofs.channel_ok.Statement.{statement}
-use Rattle.table.proofs.channel_ok.Tie as tie
+use Rattle.pieces.proofs.channel_ok.Statement.{statement}
+use Rattle.pieces.proofs.channel_ok.Tie as tie
 
 end-ok-requires : tie.Need-end-ok-requires
 end-ok-requires c κs = search needs

@@ -1,11 +1,11 @@
--- `table::node_ok` meets its contract: its tests are those of the definition, and the constant fits 32 bits, so that what its bits give
+-- `pieces::node_ok` meets its contract: its tests are those of the definition, and the constant fits 32 bits, so that what its bits give
 -- back is the constant. Assumes nothing.
 use mir.Syntax.{w32}
 use mir.ValLaws.{toZ-ofZ}
 use borrow.Author.Needs.{needs, sfits-of}
 use Rattle.rules.specs.Network.{nodeOk}
-use Rattle.table.proofs.node_ok.Statement.{statement}
-use Rattle.table.proofs.node_ok.Tie as tie
+use Rattle.pieces.proofs.node_ok.Statement.{statement}
+use Rattle.pieces.proofs.node_ok.Tie as tie
 
 both-requires : tie.Need-both-requires
 both-requires c κs = search needs

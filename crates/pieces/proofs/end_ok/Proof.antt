@@ -1,7 +1,7 @@
--- `table::end_ok` meets its contract: its tests are those of the definition. Assumes nothing.
+-- `pieces::end_ok` meets its contract: its tests are those of the definition. Assumes nothing.
 use borrow.Author.Needs.{needs}
-use Rattle.table.proofs.end_ok.Statement.{statement}
-use Rattle.table.proofs.end_ok.Tie as tie
+use Rattle.pieces.proofs.end_ok.Statement.{statement}
+use Rattle.pieces.proofs.end_ok.Tie as tie
 
 wide-requires : tie.Need-wide-requires
 wide-requires c κs = search needs

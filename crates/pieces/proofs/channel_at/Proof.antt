@@ -1,8 +1,8 @@
--- `table::channel_at` meets its contract: the fields are those of the definition. Assumes nothing.
+-- `pieces::channel_at` meets its contract: the fields are those of the definition. Assumes nothing.
 use borrow.Author.Needs.{needs}
 use Rattle.rules.specs.Table.{channelAt}
-use Rattle.table.proofs.channel_at.Statement.{statement}
-use Rattle.table.proofs.channel_at.Tie as tie
+use Rattle.pieces.proofs.channel_at.Statement.{statement}
+use Rattle.pieces.proofs.channel_at.Tie as tie
 
 field-requires : tie.Need-field-requires
 field-requires c κs = search needs

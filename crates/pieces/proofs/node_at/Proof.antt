@@ -1,11 +1,11 @@
--- `table::node_at` meets its contract: the fields are those of the definition, and the constant fits 32 bits, so that what its bits give
+-- `pieces::node_at` meets its contract: the fields are those of the definition, and the constant fits 32 bits, so that what its bits give
 -- back is the constant. Assumes nothing.
 use mir.Syntax.{w32}
 use mir.ValLaws.{toZ-ofZ}
 use Rattle.rules.specs.Table.{nodeAt}
 use borrow.Author.Needs.{needs, sfits-of}
-use Rattle.table.proofs.node_at.Statement.{statement}
-use Rattle.table.proofs.node_at.Tie as tie
+use Rattle.pieces.proofs.node_at.Statement.{statement}
+use Rattle.pieces.proofs.node_at.Tie as tie
 
 field-requires : tie.Need-field-requires
 field-requires c κs = search needs
