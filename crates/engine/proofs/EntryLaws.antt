@@ -25,7 +25,7 @@ use Rattle.engine.specs.declared.Machine.{Machine}
 use Rattle.engine.specs.Setup.{faultyBy}
 use Rattle.engine.specs.Runs.{RunOf, Starts, Lawful, runRead}
 use Rattle.rules.proofs.Agreeing.{lowest-ext}
-use Rattle.engine.proofs.RefusalNumbers.{in-range, case-in-range, network-numbered}
+use Rattle.rules.proofs.RefusalNumbers.{in-range, case-in-range, network-numbered}
 
 -- a refusal leaves the list as it was
 refused-run : (why : Refusal) (list : List ℕ) → RunOf (refused (numberOf why) (placeOf why)) list list (Ran.Refused why)

@@ -8,7 +8,6 @@ pub mod StartStands
 pub mod StartWires
 pub mod StartAble
 pub mod StartLaws
-pub mod RefusalNumbers
 pub mod EntryLaws
 pub mod RunLaws
 pub mod RunTurns

@@ -18,7 +18,7 @@ use Rattle.rules.specs.Refusals.{Outcome, refused, stopped, ended, outcome, fin
 use Rattle.rules.specs.Listing.{bytesAt, tableLength, tableIn, horizonIn, arrivalsIn, framed, decimal, line, stopWord, refusedWord, wordLine, lastLine, lines, listing}
 use Rattle.rules.proofs.ListLaws.{by-test}
 use Rattle.engine.specs.Runs.{RunOf}
-use Rattle.engine.proofs.RefusalNumbers.{in-range, case-in-range, network-numbered}
+use Rattle.rules.proofs.RefusalNumbers.{in-range, case-in-range, network-numbered}
 use Rattle.listing.specs.Text.{wordLines, lastBy}
 
 -- a refusal has a number from 1 to 10, and a stop a higher one

@@ -1,14 +1,13 @@
 // The pole's listing: from the bytes of standard input to the bytes of the listing, in a lent buffer.
 ghost use mathlib.Core.Path.{_≡_};
 ghost use mathlib.Core.Bool.{true};
-ghost use mathlib.Core.List.{List, [], _∷_, _++_, map};
-ghost use Prim.Native.Nat.{ℕ, _+_, _-_, _*_, _/_, _%_, _^_, _≤_, _<_};
-ghost use lib.Dec.{leb};
-ghost use lib.ListN.{length, getD, take, drop};
-ghost use Rattle.rules.specs.Lists.{joined, tab};
+ghost use mathlib.Core.List.{[], _∷_};
+ghost use Prim.Native.Nat.{_+_, _-_, _*_, _/_, _%_, _≤_, _<_};
+ghost use lib.ListN.{length, take};
+ghost use Rattle.rules.specs.Lists.{tab};
 ghost use Rattle.rules.specs.Kinds.{signed};
-ghost use Rattle.rules.specs.Refusals.{Outcome, numberOf, placeOf, refused as refusedAs, stopped as stoppedAs, ended as endedAs, ranSays, runSays, wordsOf, run as runRule};
-ghost use Rattle.rules.specs.Listing.{bytesAt, tableLength, horizonIn, arrivalBytes, arrivalsIn, framed, decimal, signedDecimal, wordLine, lastLine, listing as listingRule};
+ghost use Rattle.rules.specs.Refusals.{numberOf, placeOf, refused as refusedAs, stopped as stoppedAs, ended as endedAs, ranSays};
+ghost use Rattle.rules.specs.Listing.{bytesAt, framed, decimal, signedDecimal, wordLine, lastLine, listing as listingRule};
 ghost use Rattle.listing.specs.Text.{Put, wordLines, lastBy, size, Listed};
 use rules::Ran;
 use rules::Refusal;
@@ -140,18 +139,12 @@ fn put_refusal(text: &mut [u8], at: usize, why: Refusal) -> usize
     requires { ⌜ at + 64 ≤ length (now text) ⌝ }
     ensures { λ r. ⌜ Put (now (text .entry)) at (lastLine 0 (refusedAs (numberOf why) (placeOf why))) (now (text .exit)) r ⌝ }
 {
-    match why {
-        Refusal::BitsEnd(place) => put_refused(text, at, 1, place),
-        Refusal::Version => put_refused(text, at, 2, 0),
-        Refusal::Counts => put_refused(text, at, 3, 0),
-        Refusal::NodeField(place) => put_refused(text, at, 4, place),
-        Refusal::ChannelField(place) => put_refused(text, at, 5, place),
-        Refusal::Capacities(place) => put_refused(text, at, 6, place),
-        Refusal::Leftover => put_refused(text, at, 7, 0),
-        Refusal::Ports(place) => put_refused(text, at, 8, place),
-        Refusal::Horizon => put_refused(text, at, 9, 0),
-        Refusal::Arrival(place) => put_refused(text, at, 10, place),
-    }
+    put_refused(
+        text,
+        at,
+        pieces::number_of(why) as u64,
+        pieces::place_of(why),
+    )
 }
 
 // Puts the last line of a run.

@@ -41,6 +41,12 @@ channel-says-once = once-by (found-by ChannelRead.Read ChannelRead.Refused) foun
     found (ChannelRead.Read ch) = refl
     found (ChannelRead.Refused why) = refusal-found (ChannelRead.Refused Refusal.Version) ChannelRead.Refused [] why
 
+pub number-of : Settled calls.number_of.ended calls.number_of.Reads.Learnt
+number-of κs args o p e f = Σ-path (e ∙⁻¹ f) refl
+
+pub place-of : Settled calls.place_of.ended calls.place_of.Reads.Learnt
+place-of κs args o p e f = Σ-path (e ∙⁻¹ f) refl
+
 pub both : Settled calls.both.ended calls.both.Reads.Learnt
 both κs args o p e f = Σ-path (e ∙⁻¹ f) refl
 

@@ -6,6 +6,7 @@ ghost use lib.ListN.{length};
 ghost use Rattle.rules.specs.Kinds.{constantOk};
 ghost use Rattle.rules.specs.Network.{countsOk, nodeOk, endOk, channelOk};
 ghost use Rattle.rules.specs.Table.{headerAt, nodeAt, nodePiece, channelAt, channelPiece};
+ghost use Rattle.rules.specs.Refusals.{numberOf, placeOf};
 ghost use Rattle.pieces.specs.Says.{headerSays, nodeSays, channelSays};
 use rules::Channel;
 use rules::Node;
@@ -27,6 +28,42 @@ pub enum NodeRead {
 pub enum ChannelRead {
     Read(Channel),
     Refused(Refusal),
+}
+
+// The paper's number of a refusal.
+pub fn number_of(why: Refusal) -> usize
+    ensures { λ r. ⌜ r ≡ numberOf why ⌝ }
+{
+    match why {
+        Refusal::BitsEnd(_) => 1,
+        Refusal::Version => 2,
+        Refusal::Counts => 3,
+        Refusal::NodeField(_) => 4,
+        Refusal::ChannelField(_) => 5,
+        Refusal::Capacities(_) => 6,
+        Refusal::Leftover => 7,
+        Refusal::Ports(_) => 8,
+        Refusal::Horizon => 9,
+        Refusal::Arrival(_) => 10,
+    }
+}
+
+// The place of a refusal.
+pub fn place_of(why: Refusal) -> usize
+    ensures { λ r. ⌜ r ≡ placeOf why ⌝ }
+{
+    match why {
+        Refusal::BitsEnd(bit) => bit,
+        Refusal::Version => 0,
+        Refusal::Counts => 0,
+        Refusal::NodeField(node) => node,
+        Refusal::ChannelField(channel) => channel,
+        Refusal::Capacities(channel) => channel,
+        Refusal::Leftover => 0,
+        Refusal::Ports(node) => node,
+        Refusal::Horizon => 0,
+        Refusal::Arrival(index) => index,
+    }
 }
 
 // Both tests pass.

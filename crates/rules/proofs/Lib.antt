@@ -19,3 +19,4 @@ pub mod Arrivals
 pub mod Order
 pub mod Settle
 pub mod SaysOnce
+pub mod RefusalNumbers

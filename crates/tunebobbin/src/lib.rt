@@ -2,46 +2,9 @@
 // include/tunebobbin.h is the same for a reader of C.
 ghost use mathlib.Core.Path.{_≡_};
 ghost use lib.ListN.{length};
-ghost use Rattle.rules.specs.Refusals.{numberOf, placeOf, check as checkRule, run as runRule, runSays, listAfter};
+ghost use Rattle.rules.specs.Refusals.{check as checkRule, run as runRule, runSays, listAfter};
 use rules::Checked;
 use rules::Ran;
-use rules::Refusal;
-
-// The paper's number of a refusal.
-fn number_of(why: Refusal) -> usize
-    ensures { λ r. ⌜ r ≡ numberOf why ⌝ }
-{
-    match why {
-        Refusal::BitsEnd(_) => 1,
-        Refusal::Version => 2,
-        Refusal::Counts => 3,
-        Refusal::NodeField(_) => 4,
-        Refusal::ChannelField(_) => 5,
-        Refusal::Capacities(_) => 6,
-        Refusal::Leftover => 7,
-        Refusal::Ports(_) => 8,
-        Refusal::Horizon => 9,
-        Refusal::Arrival(_) => 10,
-    }
-}
-
-// The place of a refusal.
-fn place_of(why: Refusal) -> usize
-    ensures { λ r. ⌜ r ≡ placeOf why ⌝ }
-{
-    match why {
-        Refusal::BitsEnd(bit) => bit,
-        Refusal::Version => 0,
-        Refusal::Counts => 0,
-        Refusal::NodeField(node) => node,
-        Refusal::ChannelField(channel) => channel,
-        Refusal::Capacities(channel) => channel,
-        Refusal::Leftover => 0,
-        Refusal::Ports(node) => node,
-        Refusal::Horizon => 0,
-        Refusal::Arrival(index) => index,
-    }
-}
 
 // The check of a table: answers the number, 0 for a table that is taken, and writes the place and both counts.
 #[no_mangle]
@@ -65,10 +28,10 @@ pub extern "C" fn tunebobbin_check(
             0
         }
         Checked::Refused(why) => {
-            *place = place_of(why);
+            *place = pieces::place_of(why);
             *nodes = 0;
             *channels = 0;
-            number_of(why)
+            pieces::number_of(why)
         }
     }
 }
@@ -116,10 +79,10 @@ pub extern "C" fn tunebobbin_run(
             12
         }
         Ran::Refused(why) => {
-            *place = place_of(why);
+            *place = pieces::place_of(why);
             *channel = 0;
             *count = 0;
-            number_of(why)
+            pieces::number_of(why)
         }
     }
 }
