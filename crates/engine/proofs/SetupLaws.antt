@@ -1,7 +1,6 @@
 -- What is made of a table before the first instant: the entries of an array that are filled from the first on, the sums of capacities, the
 -- channel at each port, and which arrivals are faulty. Assumes nothing.
-use Prim.Native.Nat.{ℕ, zero, suc, _+_, _-_, _*_, _≤_, _<_, zero-le}
-use native.Mathlib.Nat.{not-suc-le-zero}
+use Prim.Native.Nat.{ℕ, suc, _+_, _-_, _*_, _≤_, _<_, zero-le}
 use native.Mathlib.Numerals.{add-one}
 use native.Mathlib.Omega.{arith}
 use mathlib.Core.Bool.{Bool, true, false, cond, _&&_}
@@ -13,6 +12,7 @@ use lib.Seq.{getD-set-same, getD-set-other}
 use borrow.Author.Tests.{ltb-true, ltb-false, lt-ltb, le-ltb, eqb-true, eqb-false, eq-eqb, ne-eqb}
 use Rattle.rules.specs.Lists.{total}
 use Rattle.rules.proofs.ListLaws.{by-test, and-both, true-or-false}
+use Rattle.rules.proofs.Agreeing.{total-longer}
 use Rattle.rules.specs.Instant.{channelIn, timeIn}
 use Rattle.engine.specs.Setup.{faultyBy}
 use Rattle.steps.specs.Taking.{portOf}
@@ -34,12 +34,7 @@ filled-more l f c v h below now i under =
 -- a sum with its next part is at most a longer sum
 pub sum-within : (n c : ℕ) (f : ℕ → ℕ) → c < n → total c f + f c ≤ total n f
 unfolding total
-sum-within zero c f h = absurd (not-suc-le-zero h)
-sum-within (suc n) c f h =
-    by-test (ltb c n) (λ e. omega (arith, sum-within n c f (ltb-true c n e)))
-    (λ e.
-    let same : c ≡ n = omega (arith, ltb-false c n e) in
-    rw same (omega arith))
+sum-within n c f h = total-longer n (suc c) f h
 
 pub sum-more : (c s : ℕ) (f : ℕ → ℕ) → s ≡ total c f → s + f c ≡ total (c + 1) f
 unfolding total

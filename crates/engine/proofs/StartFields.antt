@@ -1,42 +1,22 @@
--- What the rules say of the fields of an obeying network's nodes and channels, and that its arrays have these fields as entries.
+-- What the rules say of the fields of an obeying network's nodes, and that its arrays have its nodes' and channels' fields as entries.
 -- Assumes nothing.
 use Prim.Native.Nat.{ℕ, _≤_, _<_}
 use native.Mathlib.Omega.{arith}
-use mathlib.Core.Bool.{Bool, true, false, and-false}
+use mathlib.Core.Bool.{true, false}
 use mathlib.Core.Path.{_≡_, refl, _∙_, ap}
-use lib.Dec.{eqb, leb, ltb}
 use lib.ListN.{length, getD}
-use borrow.Author.Tests.{leb-true, ltb-true, eqb-true, not-true}
+use borrow.Author.Tests.{not-true}
 use Rattle.rules.specs.declared.Node.{Node}
 use Rattle.rules.specs.declared.Channel.{Channel}
 use Rattle.rules.specs.Lists.{tab}
 use Rattle.rules.specs.Kinds.{signed, pattern, isZero, constantOk}
-use Rattle.rules.specs.Network.{Network, Obeys, nodeOf, channelOf, isRegister, isOut, countsOk, nodeOk, channelOk}
+use Rattle.rules.specs.Network.{Network, Obeys, nodeOf, channelOf, nodeOk}
 use Rattle.rules.specs.Table.{read}
-use Rattle.rules.proofs.Checks.{node-fields}
+use Rattle.rules.proofs.Checks.{node-fields, few-nodes, few-channels}
 use Rattle.rules.proofs.KindLaws.{signed-pattern}
-use Rattle.rules.proofs.ListLaws.{by-test, true-or-false, getD-tab, length-tab}
+use Rattle.rules.proofs.ListLaws.{getD-tab, length-tab}
 use Rattle.table.specs.declared.Network as table
 use Rattle.table.specs.Laid.{laid, nodeArrays, channelArrays, allPlaces, padded}
-
--- a test passes if all tests together do and they do not without it
-must : (test : Bool) {all : Bool} → all ≡ true → (test ≡ false → all ≡ false) → test ≡ true
-must test ok without = by-test test (λ e. e) (λ e. true-or-false ok (without e))
-
--- a channel has a place, a register one, and a channel that is not to the outside is to a node
-pub record ChannelLimits (nodes : ℕ) (ch : Channel) : Type 0 where
-  pub some : 1 ≤ ch .capacity
-  pub single : isRegister ch ≡ true → ch .capacity ≡ 1
-  pub inner : isOut ch ≡ false → ch .reader < nodes
-
-pub channel-limits : (nodes : ℕ) (ch : Channel) → channelOk nodes ch ≡ true → ChannelLimits nodes ch
-unfolding channelOk
-channel-limits nodes ch ok =
-    record {
-      some = leb-true _ _ (must (leb 1 (ch .capacity)) ok (λ e. simp (channelOk, e, and-false)));
-      single = λ r. eqb-true _ _ (must (eqb (ch .capacity) 1) ok (λ e. simp (channelOk, r, e, and-false)));
-      inner = λ o. ltb-true _ _ (must (ltb (ch .reader) nodes) ok (λ e. simp (channelOk, o, e, and-false)));
-    }
 
 -- the kind is one of those listed, the divisor is not 0, the period has 16 bits and is not 0, and so the deadline
 pub record NodeLimits (node : Node) : Type 0 where
@@ -47,16 +27,15 @@ pub record NodeLimits (node : Node) : Type 0 where
   pub deadline : node .deadline < 65536
 
 pub node-limits : (node : Node) → nodeOk node ≡ true → NodeLimits node
-unfolding nodeOk constantOk
+unfolding constantOk
 node-limits node ok =
-    let period : node .period ≤ 65535 = leb-true _ _ (must (leb (node .period) 65535) ok (λ e. simp (nodeOk, e, and-false))) in
-    let constant : constantOk (node .kind) (node .constant) ≡ true = must (constantOk (node .kind) (node .constant)) ok (λ e. simp (nodeOk, e, and-false)) in
+    let fields = node-fields node ok in
     record {
-      kind = ltb-true _ _ (must (ltb (node .kind) 12) ok (λ e. simp (nodeOk, e)));
-      divisor = λ seven. not-true (isZero (node .constant)) (rw seven at constant);
-      some = omega (arith, node-fields node ok .deadline, node-fields node ok .within);
-      period = omega arith;
-      deadline = omega (arith, node-fields node ok .within);
+      kind = fields .kind;
+      divisor = λ seven. not-true (isZero (node .constant)) (rw seven at (fields .constant));
+      some = omega (arith, fields .deadline, fields .within);
+      period = omega (arith, fields .period);
+      deadline = omega (arith, fields .within, fields .period);
     }
 
 -- the entries of arrays are the fields of a network's nodes and channels; tokens are by their 32 bits
@@ -77,19 +56,11 @@ pub record Entries (net : Network) (a : table.Network) : Type 0 where
   pub tokens : a .channel .tokens ≡ padded 1024 (allPlaces (net .channels) (net .tokens))
 
 module _ (net : Network) (obeys : Obeys net) where
-  pub few-nodes : length (net .nodes) ≤ 32
-  unfolding countsOk
-  few-nodes = leb-true _ _ (must (leb (length (net .nodes)) 32) (obeys .counts) (λ e. simp (countsOk, e, and-false)))
-
-  pub few-channels : length (net .channels) ≤ 64
-  unfolding countsOk
-  few-channels = leb-true _ _ (must (leb (length (net .channels)) 64) (obeys .counts) (λ e. simp (countsOk, e, and-false)))
-
   node-entry : (f : Node → ℕ) (n : ℕ) → n < length (net .nodes) → getD (tab 32 (λ m. f (nodeOf net m))) n 0 ≡ f (nodeOf net n)
-  node-entry f n h = getD-tab 32 (λ m. f (nodeOf net m)) n 0 (omega (arith, few-nodes))
+  node-entry f n h = getD-tab 32 (λ m. f (nodeOf net m)) n 0 (omega (arith, few-nodes net obeys))
 
   channel-entry : (f : Channel → ℕ) (c : ℕ) → c < length (net .channels) → getD (tab 64 (λ d. f (channelOf net d))) c 0 ≡ f (channelOf net c)
-  channel-entry f c h = getD-tab 64 (λ d. f (channelOf net d)) c 0 (omega (arith, few-channels))
+  channel-entry f c h = getD-tab 64 (λ d. f (channelOf net d)) c 0 (omega (arith, few-channels net obeys))
 
   pub laid-entries : Entries net (laid (read net))
   unfolding laid nodeArrays channelArrays

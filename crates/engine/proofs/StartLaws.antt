@@ -18,7 +18,8 @@ use Rattle.steps.specs.Writes.{Walk, Climbs}
 use Rattle.engine.specs.Setup.{innerOf, outerOf}
 use Rattle.steps.specs.Taking.{portOf}
 use Rattle.engine.specs.Runs.{Starts, Lawful}
-use Rattle.engine.proofs.StartFields.{Entries, laid-entries, few-nodes, few-channels}
+use Rattle.engine.proofs.StartFields.{Entries, laid-entries}
+use Rattle.rules.proofs.Checks.{few-nodes, few-channels}
 use Rattle.engine.proofs.StartStands.{starts-represents}
 use Rattle.engine.proofs.StartWires.{AtPort, at-port, inner-walk, outer-walk, input-port}
 use Rattle.engine.proofs.StartAble.{starts-readable, starts-separate}

@@ -7,12 +7,12 @@ use mathlib.Core.Path.{_≡_, _∙_}
 use lib.ListN.{length, getD, replicate, length-replicate, getD-replicate}
 use Rattle.rules.specs.Lists.{total}
 use Rattle.rules.specs.Network.{Network, Obeys, channelOf, capacities}
-use Rattle.rules.proofs.Checks.{fields-of}
+use Rattle.rules.proofs.Checks.{few-channels, fields-of}
 use Rattle.rules.proofs.ListLaws.{total-ext}
 use Rattle.table.specs.declared.Network as table
 use Rattle.steps.specs.Rings.{shape, cells, Placed, Rings}
 use Rattle.engine.proofs.SetupLaws.{sum-within}
-use Rattle.engine.proofs.StartFields.{ChannelLimits, channel-limits, Entries, few-channels}
+use Rattle.engine.proofs.StartFields.{Entries}
 
 -- the capacities of the channels before c, and its own, are at most those of the channels before a later one
 pub capacities-climb : (net : Network) (c d : ℕ) → c < d → capacities net c + channelOf net c .capacity ≤ capacities net d
@@ -24,20 +24,17 @@ module _ (net : Network) (obeys : Obeys net) (a : table.Network) (entries : Entr
   unfolding capacities
   base-at c h = sums c h ∙ total-ext c _ _ (λ d under. entries .capacity d (omega arith))
 
-  limits : (c : ℕ) → c < length (net .channels) → ChannelLimits (length (net .nodes)) (channelOf net c)
-  limits c h = channel-limits (length (net .nodes)) (channelOf net c) (obeys .channelFields c h)
-
   pub starts-placed : Placed (shape (length (net .channels)) (a .channel .sort) base (a .channel .capacity))
   starts-placed =
       record {
         few = few-channels net obeys;
-        some = λ c h. omega (arith, entries .capacity c h, limits c h .some);
+        some = λ c h. omega (arith, entries .capacity c h, fields-of net obeys c h .some);
         within = λ c h.
             omega (arith, base-at c h, entries .capacity c h, capacities-climb net c (length (net .channels)) h, obeys .together);
         apart = λ c d less h.
             let under : c < length (net .channels) = omega arith in
             omega (arith, base-at c under, base-at d h, entries .capacity c under, capacities-climb net c d less);
-        single = λ c h register. entries .capacity c h ∙ limits c h .single (rw (entries .sort c h) at register);
+        single = λ c h register. entries .capacity c h ∙ fields-of net obeys c h .single (rw (entries .sort c h) at register);
       }
 
   pub starts-rings : length (a .channel .tokens) ≡ 1024 → Rings (shape (length (net .channels)) (a .channel .sort) base (a .channel .capacity)) (cells (replicate 64 0) (a .channel .initial) (a .channel .tokens))

@@ -11,7 +11,7 @@ use Rattle.rules.specs.Lists.{total}
 use Rattle.rules.specs.Kinds.{signed, pattern}
 use Rattle.rules.specs.Network.{Network, Obeys, nodeOf, capacities}
 use Rattle.rules.specs.Instant.{initial, heldIn, waitingOf}
-use Rattle.rules.proofs.Checks.{fields-of}
+use Rattle.rules.proofs.Checks.{few-nodes, few-channels, fields-of}
 use Rattle.rules.proofs.ListLaws.{getD-tab}
 use Rattle.table.specs.declared.Network as table
 use Rattle.table.specs.Laid.{allPlaces, padded}
@@ -20,7 +20,7 @@ use Rattle.steps.specs.Writes.{never}
 use Rattle.steps.specs.Nodes.{waitingAt}
 use Rattle.steps.specs.Represents.{NextRelease, Represents}
 use Rattle.engine.specs.Runs.{startPendings}
-use Rattle.engine.proofs.StartFields.{Entries, node-limits, few-nodes, few-channels}
+use Rattle.engine.proofs.StartFields.{Entries, node-limits}
 use Rattle.engine.proofs.StartRings.{base-at, starts-rings}
 use Rattle.engine.proofs.StartHeld.{signed-patterns, queue-straight, all-places, tokens-at}
 

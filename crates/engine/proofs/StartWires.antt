@@ -11,6 +11,7 @@ use borrow.Author.Tests.{lt-ltb, eqb-true}
 use Rattle.rules.specs.Lists.{lowest}
 use Rattle.rules.specs.Kinds.{inputs}
 use Rattle.rules.specs.Network.{Network, Obeys, nodeOf, channelOf, isOut, serves}
+use Rattle.rules.proofs.Checks.{few-nodes, fields-of, end-node}
 use Rattle.rules.proofs.ListLaws.{by-test, and-left, and-right, lowest-is}
 use Rattle.table.specs.declared.Network as table
 use Rattle.rules.proofs.Agreeing.{lowest-ext}
@@ -19,7 +20,7 @@ use Rattle.engine.specs.Setup.{innerOf, outerOf}
 use Rattle.steps.specs.Taking.{portOf}
 use Rattle.steps.specs.Represents.{writesTo}
 use Rattle.steps.proofs.PortLaws.{port-there, read-at}
-use Rattle.engine.proofs.StartFields.{Entries, channel-limits, few-nodes}
+use Rattle.engine.proofs.StartFields.{Entries}
 
 -- properties that agree below n have the same next numbers, and so the same walk
 next-ext : (n : ℕ) (f g : ℕ → Bool) (k : ℕ) → ((c : ℕ) → c < n → f c ≡ g c) → nextFrom n f k ≡ nextFrom n g k
@@ -48,7 +49,7 @@ module _ (net : Network) (obeys : Obeys net) where
       (λ e. rw (e, eqb-true (channelOf net c .reader) 63 e))
       (λ e.
       let inner : channelOf net c .reader < length (net .nodes)
-      = channel-limits (length (net .nodes)) (channelOf net c) (obeys .channelFields c h) .inner e in
+      = end-node (length (net .nodes)) (channelOf net c .reader) (fields-of net obeys c h .reader) e in
       rw e (lt-ltb (channelOf net c .reader) 32 (omega (arith, few-nodes net obeys))))
 
   pub at-port : (n : ℕ) → n < length (net .nodes) → (p : ℕ) → p < inputs (nodeOf net n .kind) → AtPort net n p (lowest (length (net .channels)) (serves net n p))

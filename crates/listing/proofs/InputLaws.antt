@@ -1,19 +1,19 @@
 -- Laws of the listing's input: what its frame says and what it does not allow, a number of eight bytes, and one arrival more. Assumes
 -- nothing.
-use Prim.Native.Nat.{ℕ, zero, suc, _+_, _*_, _/_, _%_, _^_, _≤_, _<_}
-use native.Mathlib.Nat.{add-zero, zero-add, suc-add, add-suc}
+use Prim.Native.Nat.{ℕ, _+_, _*_, _/_, _%_, _^_, _≤_, _<_}
 use native.Mathlib.Numerals.{add-one}
 use mathlib.Core.Bool.{true, false, _&&_, and-false}
-use mathlib.Core.List.{List, [], _∷_, _++_}
-use mathlib.Core.Path.{_≡_, sym, ap, _∙_}
+use mathlib.Core.List.{List}
+use mathlib.Core.Path.{_≡_, sym}
 use lib.Dec.{eqb, leb}
 use lib.ListN.{length, set, take}
 use lib.Seq.{take-suc-set}
 use borrow.Author.Tests.{leb-true, lt-leb, le-leb, eq-eqb, ne-eqb}
-use Rattle.rules.specs.Lists.{tabFrom, tab}
+use Rattle.rules.specs.Lists.{tab}
 use Rattle.rules.specs.Table.{fieldAt}
 use Rattle.rules.specs.Refusals.{refused}
 use Rattle.rules.specs.Listing.{bytesAt, tableLength, arrivalBytes, framed, lastLine, listing}
+use Rattle.rules.proofs.LongerLists.{tab-more}
 use Rattle.rules.proofs.ListLaws.{and-left, and-right}
 use Rattle.rules.proofs.FieldLaws.{field-append}
 
@@ -74,15 +74,6 @@ frame-of s good =
 -- eight bytes are the front 32 bits and the back 32
 pub eight-bytes : (s : List ℕ) (i : ℕ) {high low : ℕ} → high ≡ fieldAt s (8 * i) 32 → low ≡ fieldAt s (8 * i + 32) 32 → high * 2 ^ 32 + low ≡ bytesAt s i 8
 eight-bytes s i front back = rw (front, back) (sym (field-append s (8 * i) 32 32))
-
-tabFrom-more : {A : Type 0} (f : ℕ → A) (i n : ℕ) → tabFrom f i (suc n) ≡ tabFrom f i n ++ (f (i + n) ∷ [])
-unfolding tabFrom
-tabFrom-more f i zero = rw (add-zero i)
-tabFrom-more f i (suc n) = ap (λ rest. f i ∷ rest) (tabFrom-more f (suc i) n ∙ rw (suc-add i n, add-suc i n))
-
-tab-more : {A : Type 0} (n : ℕ) (f : ℕ → A) → tab (suc n) f ≡ tab n f ++ (f n ∷ [])
-unfolding tab
-tab-more n f = tabFrom-more f 0 n ∙ rw (zero-add n)
 
 -- one arrival more in the list
 pub arrival-more : (s : List ℕ) (at : ℕ) (arrivals : List ℕ) (i : ℕ) {arrival : ℕ} → take i arrivals ≡ tab i (λ k. bytesAt s (at + 8 * k) 8) → i < length arrivals → arrival ≡ bytesAt s (at + 8 * i) 8 → take (i + 1) (set arrivals i arrival) ≡ tab (i + 1) (λ k. bytesAt s (at + 8 * k) 8)

@@ -2,21 +2,19 @@
 use Prim.Native.Nat.{ℕ, _+_, _%_, _^_, _≤_, _<_}
 use native.Mathlib.Numerals.{add-one}
 use native.Mathlib.Omega.{arith}
-use mathlib.Core.List.{List, [], _∷_, _++_, map, append-assoc, append-nil}
-use mathlib.Core.Path.{_≡_, refl, sym, _∙_, ap}
+use mathlib.Core.List.{List, [], _∷_, _++_, map, map-append}
+use mathlib.Core.Path.{_≡_, refl}
 use lib.ListN.{length, getD, take}
 use lib.Seq.{take-suc}
 use Rattle.rules.specs.Lists.{joined}
 use Rattle.rules.specs.Instant.{timeIn, channelIn, valueIn}
 use Rattle.rules.specs.Listing.{decimal, signedDecimal, wordLine}
+use Rattle.rules.proofs.LongerLists.{joined-more}
 use Rattle.listing.specs.Text.{wordLines}
 use Rattle.listing.proofs.DecimalLaws.{decimal-length, token-length}
 
 joined-one-more : (words : List ℕ) (w : ℕ) → joined (map wordLine (words ++ (w ∷ []))) ≡ joined (map wordLine words) ++ wordLine w
-unfolding joined
-joined-one-more [] w = append-nil (wordLine w)
-joined-one-more (x ∷ words) w =
-    ap (λ rest. wordLine x ++ rest) (joined-one-more words w) ∙ sym (append-assoc (wordLine x) (joined (map wordLine words)) (wordLine w))
+joined-one-more words w = rw map-append (joined-more (map wordLine words) (wordLine w))
 
 pub no-word-lines : (words : List ℕ) → wordLines words 0 ≡ []
 unfolding wordLines joined

@@ -5,18 +5,16 @@ use native.Mathlib.Omega.{arith}
 use mathlib.Core.Bool.{true}
 use mathlib.Core.List.{List, [], _∷_, _++_, map}
 use mathlib.Core.Path.{_≡_, refl, ap, ap₂, _∙_}
-use lib.Dec.{eqb, leb, ltb}
-use lib.IntN.{ℤ}
 use lib.ListN.{length, take, drop, length-append}
 use lib.Seq.{take-append-seam}
 use Rattle.rules.specs.declared.Ran.{Ran}
-use Rattle.rules.specs.Lists.{joined, lowest, tab}
+use Rattle.rules.specs.Lists.{joined, tab}
 use Rattle.rules.specs.Network.{Network}
-use Rattle.rules.specs.Instant.{State, overfull, judged, instant, Reached, running, halted, stepped, onward, reached, afterWrites, outWords}
-use Rattle.rules.specs.Table.{Reading, refusal, read, _then_, unless, network}
-use Rattle.rules.specs.Refusals.{Outcome, refused, stopped, ended, outcome, finish, faultyArrival, run, wordsOf, ranSays, runSays}
+use Rattle.rules.specs.Instant.{State, Step, Reached, running, halted, stepped, onward, reached}
+use Rattle.rules.specs.Refusals.{Outcome, refused, stopped, ended, outcome, run, wordsOf, ranSays, runSays}
 use Rattle.rules.specs.Listing.{bytesAt, tableLength, tableIn, horizonIn, arrivalsIn, framed, decimal, line, stopWord, refusedWord, wordLine, lastLine, lines, listing}
-use Rattle.rules.proofs.ListLaws.{by-test}
+use Rattle.rules.proofs.InstantLaws.{Comes, instant-comes}
+use Rattle.rules.proofs.RunCases.{by-run}
 use Rattle.engine.specs.Runs.{RunOf}
 use Rattle.rules.proofs.RefusalNumbers.{in-range, case-in-range, network-numbered}
 use Rattle.listing.specs.Text.{wordLines, lastBy}
@@ -27,18 +25,16 @@ Told (refused number place) = (1 ≤ number) × (number ≤ 10)
 Told (stopped words number i channel) = 11 ≤ number
 Told (ended words) = Unit {0}
 
-judged-told : (net : Network) (room t : ℕ) (st : State) (held : List (List ℤ)) (said words : List ℕ) → Told (outcome (stepped words t (judged net room t st held said)))
-unfolding judged
-judged-told net room t st held said words =
-    let full = lowest (length (net .channels)) (overfull net held) in
-    by-test (ltb full (length (net .channels))) (λ over. rw over (omega arith))
-    (λ under. by-test (ltb room (length said)) (λ over. rw (under, over) (omega arith)) (λ fits. rw (under, fits) tt))
+comes-told : {net : Network} {arrivals : List ℕ} {room t : ℕ} {st : State} {step : Step} (words : List ℕ) → Comes net arrivals room t st step → Told (outcome (stepped words t step))
+comes-told words (Comes.full c below over) = omega arith
+comes-told words Comes.crowded = omega arith
+comes-told words (Comes.on under fits) = tt
 
 module _ (net : Network) (arrivals : List ℕ) (room : ℕ) where
   onward-told : (t : ℕ) (earlier : Reached) → Told (outcome earlier) → Told (outcome (onward net arrivals room t earlier))
-  unfolding onward instant
+  unfolding onward
   onward-told t (running words st) told =
-      judged-told net (room - length words) t st (afterWrites net arrivals t st) (outWords net arrivals t st) words
+      comes-told words (instant-comes net arrivals (room - length words) t st)
   onward-told t (halted words number i channel) told = told
 
   reached-told : (t : ℕ) → Told (outcome (reached net arrivals room t))
@@ -47,23 +43,9 @@ module _ (net : Network) (arrivals : List ℕ) (room : ℕ) where
   reached-told (suc t) = onward-told t (reached net arrivals room t) (reached-told t)
 
 run-told : (table : List ℕ) (horizon : ℕ) (arrivals : List ℕ) (room : ℕ) → Told (run table horizon arrivals room)
-unfolding run
-run-told table horizon arrivals room = by-reading (network table) refl
-  where
-    by-reading : (r : Reading Network) → network table ≡ r
-        → Told
-        (finish
-        (r
-        then λ net. unless (leb horizon 16777215) 9 0 net
-        then λ net. unless (eqb (faultyArrival net arrivals) (length arrivals)) 10 (faultyArrival net arrivals) net)
-        (λ net. outcome (reached net arrivals room (suc horizon))))
-    by-reading (refusal number place) e = in-range number (network-numbered table .from number place e)
-    by-reading (read net) e =
-        by-test (leb horizon 16777215)
-        (λ soon.
-        by-test (eqb (faultyArrival net arrivals) (length arrivals)) (λ none. rw (soon, none) (reached-told net arrivals room (suc horizon)))
-        (λ some. rw (soon, some) (omega arith, omega arith)))
-        (λ late. rw late (omega arith, omega arith))
+run-told table horizon arrivals room =
+    by-run Told table horizon arrivals room (λ number place e. in-range number (network-numbered table .from number place e)) (omega arith, omega arith)
+    (λ place. (omega arith, omega arith)) (λ net obeys soon faultless. reached-told net arrivals room (suc horizon))
 
 -- what an answer says tells the last line
 last-line : (horizon : ℕ) (r : Ran) (o : Outcome) → Told o → ranSays r ≡ runSays o → lastBy horizon r ≡ lastLine horizon o

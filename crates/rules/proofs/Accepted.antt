@@ -5,10 +5,7 @@ use mathlib.Core.Bool.{true, not}
 use mathlib.Core.List.{List, []}
 use mathlib.Core.Path.{_≡_, sym, _∙_}
 use lib.Dec.{eqb}
-use lib.IntN.{pos}
 use lib.ListN.{length, getD}
-use mir.Syntax.{w32}
-use mir.Val.{SFits}
 use borrow.Author.Tests.{eqb-true, not-false}
 use Rattle.rules.specs.Network.{Network, Obeys, capacities, portsOk}
 use Rattle.rules.specs.Table.{read, Channels, endsAt, faultyNode, network}
@@ -16,6 +13,7 @@ use Rattle.rules.proofs.ListLaws.{lowest-is}
 use Rattle.rules.proofs.LongerLists.{at-any}
 use Rattle.rules.proofs.ReadingLaws.{Gives, then-gives, unless-gives, unless-then-gives}
 use Rattle.rules.proofs.Pieces.{header-read, nodes-read, ChannelsRead, channels-read}
+use Rattle.rules.proofs.TokenLaws.{AllFit, none-fit, entries-fit}
 
 -- every node's ports are served where no node is faulty
 all-served : (net : Network) → faultyNode net ≡ length (net .nodes) → (n : ℕ) → n < length (net .nodes) → portsOk net n ≡ true
@@ -24,17 +22,14 @@ all-served net none n below =
     let low = lowest-is (length (net .nodes)) (λ i. not (portsOk net i)) in
     not-false (portsOk net n) (low .without n (omega arith))
 
-zero-fits : SFits w32 (pos 0)
-zero-fits = record { sfits = omega arith }
-
--- every token is in 32 bits, and so is the default where there is none
-tokens-fit : (nodes n : ℕ) (all : Channels) → ChannelsRead nodes n all → (c i : ℕ) → SFits w32 (getD (getD (all .tokens) c []) i (pos 0))
+-- every token is in 32 bits
+tokens-fit : (nodes n : ℕ) (all : Channels) → ChannelsRead nodes n all → (c : ℕ) → AllFit (getD (all .tokens) c [])
 tokens-fit nodes n all got =
-    at-any (λ tokens. (i : ℕ) → SFits w32 (getD tokens i (pos 0))) (all .tokens) []
+    at-any (λ c. AllFit) (all .tokens) [] n (got .held)
     (λ c h.
-    let below : c < length (all .channels) = omega (arith, got .count, got .held) in
-    at-any (SFits w32) (getD (all .tokens) c []) (pos 0) (got .each c below .initially .fit) zero-fits)
-    (λ i. zero-fits)
+    let below : c < length (all .channels) = omega (arith, got .count) in
+    entries-fit (getD (all .tokens) c []) (got .each c below .initially .each))
+    (λ c. none-fit)
 
 network-read : (s : List ℕ) → Gives Obeys (network s)
 unfolding network capacities
@@ -60,7 +55,7 @@ network-read s =
       ports = all-served net (eqb-true (faultyNode net) (length (net .nodes)) served);
       held = back .held ∙ sym (back .count);
       initially = λ c h. back .each c h .initially .count;
-      tokenFits = tokens-fit (h .nodes) (h .channels) all back;
+      tokenFits = λ c. tokens-fit (h .nodes) (h .channels) all back c .at;
     })))))
 
 -- reading a table that is accepted gives a network that obeys the network's own rules

@@ -4,7 +4,7 @@ use Prim.Native.Nat.{ℕ, zero, suc, _+_, _-_, _<_, zero-le}
 use native.Mathlib.Nat.{add-suc, add-zero}
 use native.Mathlib.Omega.{arith}
 use mathlib.Core.Bool.{true, false}
-use mathlib.Core.List.{List, [], _∷_, append-nil}
+use mathlib.Core.List.{List, [], append-nil}
 use mathlib.Core.Option.{Option, none, some}
 use mathlib.Core.Path.{_≡_, refl, sym}
 use lib.Dec.{eqb}
@@ -12,32 +12,24 @@ use lib.IntN.{ℤ}
 use lib.ListN.{length, getD}
 use borrow.Author.Tests.{le-ltb}
 use Rattle.rules.specs.declared.Channel.{Channel}
-use Rattle.rules.specs.Lists.{tabFrom, tab, joined, lastOf, lowest}
+use Rattle.rules.specs.Lists.{tabFrom, tab, joined, lowest}
 use Rattle.rules.specs.Network.{Network, Obeys, channelOf, isRegister, isOut}
 use Rattle.rules.specs.Instant.{timeIn, Waiting, State, waitingOf, heldIn, isDue, dueNow, arriving, written, keeping, afterWrites, overfull, outWords, goesAhead, waitingAfter, heldAfter, afterReads, goes, judged, instant, running, onward, reached}
+use Rattle.rules.proofs.Arrivals.{nothing-arrives}
 use Rattle.rules.proofs.ListLaws.{tab-getD, by-test, lowest-none}
+use Rattle.rules.proofs.LongerLists.{last-of-one}
 use Rattle.rules.proofs.Sound.{Sound, Idle}
 use Rattle.rules.proofs.Reach.{sound}
 
-module _ {A : Type 0} where
-  lastOf-one : (l : List A) → length l ≡ 1 → lastOf l ≡ l
-  unfolding lastOf
-  lastOf-one [] h = refl
-  lastOf-one (x ∷ []) h = refl
-  lastOf-one (x ∷ y ∷ ys) h = absurd (omega arith)
-
-  -- empty lists one after another
-  joined-empties : (f : ℕ → List A) (i n : ℕ) → ((k : ℕ) → f k ≡ []) → joined (tabFrom f i n) ≡ []
-  unfolding tabFrom joined
-  joined-empties f i zero empty = refl
-  joined-empties f i (suc n) empty = rw (empty i) (joined-empties f (suc i) n empty)
+-- empty lists one after another
+joined-empties : {A : Type 0} (f : ℕ → List A) (i n : ℕ) → ((k : ℕ) → f k ≡ []) → joined (tabFrom f i n) ≡ []
+unfolding tabFrom joined
+joined-empties f i zero empty = refl
+joined-empties f i (suc n) empty = rw (empty i) (joined-empties f (suc i) n empty)
 
 -- an arrival list has nothing for an instant at which no arrival stands
 pub none-arriving : (arrivals : List ℕ) (t c : ℕ) → ((i : ℕ) → i < length arrivals → eqb (timeIn (getD arrivals i 0)) t ≡ false) → arriving arrivals t c ≡ []
-unfolding arriving
-none-arriving [] t c absent = refl
-none-arriving (w ∷ ws) t c absent =
-    rw (absent 0 (omega arith)) (none-arriving ws t c (λ i h. absent (suc i) (omega arith)))
+none-arriving arrivals t c absent = nothing-arrives arrivals t c (λ i h. rw (absent i h))
 
 not-due-yet : (w : Option Waiting) (t : ℕ) → isDue w t ≡ false → dueNow w t ≡ []
 not-due-yet none t h = refl
@@ -48,7 +40,7 @@ keeping-none : (ch : Channel) (old : List ℤ) → (isOut ch ≡ true → old �
 unfolding keeping
 keeping-none ch old out register =
     by-test (isOut ch) (λ e. rw e (sym (out e)))
-    (λ e. by-test (isRegister ch) (λ r. rw (e, r, append-nil) (lastOf-one old (register r))) (λ r. rw (e, r) (append-nil old)))
+    (λ e. by-test (isRegister ch) (λ r. rw (e, r, append-nil) (last-of-one old (register r))) (λ r. rw (e, r) (append-nil old)))
 
 module _ (net : Network) (arrivals : List ℕ) (t : ℕ) (st : State) (well : Sound net t st) (idle : Idle net arrivals t st) where
   nothing-written : (c : ℕ) → written net arrivals t st c ≡ []

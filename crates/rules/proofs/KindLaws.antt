@@ -5,14 +5,16 @@ use native.Mathlib.Omega.{arith}
 use mathlib.Core.Bool.{Bool, true, false, cond}
 use mathlib.Core.List.{List, [], _∷_}
 use mathlib.Core.Option.{Option, none, some}
-use mathlib.Core.Path.{_≡_, subst}
+use mathlib.Core.Path.{_≡_, refl, subst}
 use lib.Count.{onesIn, leading-le}
+use lib.Dec.{eqb}
 use lib.IntN.{ℤ, pos, negsuc, negℤ}
 use lib.ListN.{getD}
 use lib.Signed.{ltZ, quotZ}
 use mir.Syntax.{w32}
 use mir.Val.{SFits}
-use mir.ValLaws.{toZ-fits, ofZ-fits, toZ-ofZ, fits-wrap}
+use mir.ValLaws.{toZ-fits, ofZ-fits, toZ-ofZ, ofZ-toZ, fits-wrap}
+use borrow.Author.Tests.{ne-eqb}
 use Rattle.rules.specs.Kinds.{signed, pattern, isZero, sum, difference, smaller, larger, quotient, ones, firstBeam, results, result}
 
 pub signed-fits : (n : ℕ) → n < 2 ^ 32 → SFits w32 (signed n)
@@ -23,6 +25,17 @@ pattern-below a f = ofZ-fits w32 a f .fits
 
 pub signed-pattern : (a : ℤ) → SFits w32 a → signed (pattern a) ≡ a
 signed-pattern a f = toZ-ofZ w32 a f
+
+pub pattern-signed : (n : ℕ) → n < 2 ^ 32 → pattern (signed n) ≡ n
+pattern-signed n h = ofZ-toZ w32 n (record { fits = h })
+
+-- a token is 0 where its bits are, and where the bits are that stand for it
+pub zero-by-bits : (a : ℤ) → SFits w32 a → eqb (pattern a) 0 ≡ isZero a
+zero-by-bits (pos n) f = refl
+zero-by-bits (negsuc n) f = ne-eqb (pattern (negsuc n)) 0 (λ e. omega (arith, f .sfits))
+
+pub zero-of-bits : (n : ℕ) → n < 2 ^ 32 → isZero (signed n) ≡ eqb n 0
+zero-of-bits n h = rw (← zero-by-bits (signed n) (signed-fits n h), pattern-signed n h)
 
 -- what goes round is a token
 pub round-fits : (n : ℕ) → SFits w32 (signed (n % 2 ^ 32))

@@ -16,6 +16,7 @@ pub mod Reach
 pub mod Idle
 pub mod WordLaws
 pub mod Arrivals
+pub mod RunCases
 pub mod Order
 pub mod Settle
 pub mod SaysOnce

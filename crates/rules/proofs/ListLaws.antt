@@ -2,14 +2,14 @@
 use Prim.Native.Nat.{ℕ, zero, suc, _+_, _≤_, _<_, zero-le}
 use native.Mathlib.Nat.{le-of-suc-le-suc, not-suc-le-zero, zero-add, suc-add, add-suc, add-zero}
 use native.Mathlib.Omega.{arith}
-use mathlib.Core.Bool.{Bool, true, false, cond, not, _&&_}
-use mathlib.Core.List.{List, [], _∷_, _++_}
+use mathlib.Core.Bool.{Bool, true, false, cond, _&&_}
+use mathlib.Core.List.{List}
 use mathlib.Core.Path.{_≡_, refl, sym, _∙_, ap, ap₂}
 use lib.Dec.{ltb}
-use lib.ListN.{length, getD, List·getD-eq-default}
+use lib.ListN.{length, getD}
 use lib.Seq.{ext-getD}
-use borrow.Author.Tests.{ltb-true, ltb-false, lt-ltb, le-ltb}
-use Rattle.rules.specs.Lists.{tabFrom, tab, joined, lastOf, total, count, every, lowest}
+use borrow.Author.Tests.{ltb-true, ltb-false}
+use Rattle.rules.specs.Lists.{tabFrom, tab, total, every, lowest}
 
 -- both tests of a conjunction pass
 pub and-left : (a b : Bool) → (a && b) ≡ true → a ≡ true
@@ -42,9 +42,6 @@ module _ {A : Type 0} where
   pub getD-tab : (n : ℕ) (f : ℕ → A) (i : ℕ) (d : A) → i < n → getD (tab n f) i d ≡ f i
   unfolding tab
   getD-tab n f i d h = getD-tabFrom f 0 n i d h ∙ ap f (zero-add i)
-
-  pub getD-tab-out : (n : ℕ) (f : ℕ → A) (i : ℕ) (d : A) → n ≤ i → getD (tab n f) i d ≡ d
-  getD-tab-out n f i d h = List·getD-eq-default (tab n f) d (rw length-tab h)
 
   -- lists made by index are equal where their entries are
   pub tab-ext : (n : ℕ) (f g : ℕ → A) (d : A) → ((i : ℕ) → i < n → f i ≡ g i) → tab n f ≡ tab n g

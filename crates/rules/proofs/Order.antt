@@ -2,27 +2,28 @@
 use Prim.Native.Nat.{ℕ, zero, suc, _+_, _-_, _*_, _^_, _≤_, _<_}
 use native.Mathlib.Nat.{not-suc-le-zero, le-refl, le-of-eq, zero-add}
 use native.Mathlib.Omega.{arith}
-use mathlib.Core.Bool.{cond, and-false}
+use mathlib.Core.Bool.{cond}
 use mathlib.Core.List.{List, [], map, append-nil}
 use mathlib.Core.Option.{Option, none, some}
 use mathlib.Core.Path.{_≡_, refl, sym}
 use mathlib.Core.Logic.{_⊎_, inl, inr}
-use lib.Dec.{eqb, leb, ltb}
+use lib.Dec.{eqb, ltb}
 use lib.IntN.{ℤ}
 use lib.ListN.{length, getD}
 use mir.Syntax.{w32}
 use mir.Val.{SFits}
-use borrow.Author.Tests.{leb-true, ltb-true, ltb-false}
-use Rattle.rules.specs.Lists.{tab, lowest}
-use Rattle.rules.specs.Network.{Network, Obeys, channelOf, isOut, countsOk}
-use Rattle.rules.specs.Table.{Reading, refusal, read, network}
-use Rattle.rules.specs.Instant.{word, timeIn, channelIn, Waiting, State, waitingOf, dueNow, written, afterWrites, overfull, outWords, judged, instant, Reached, running, halted, onward, reached}
-use Rattle.rules.specs.Refusals.{faultyArrival, outcome, run, wordsOf}
-use Rattle.rules.proofs.ListLaws.{by-test, true-or-false}
+use borrow.Author.Tests.{ltb-true, ltb-false}
+use Rattle.rules.specs.Lists.{tab}
+use Rattle.rules.specs.Network.{Network, Obeys, channelOf, isOut}
+use Rattle.rules.specs.Instant.{word, timeIn, channelIn, Waiting, State, waitingOf, dueNow, written, outWords, Step, Reached, running, halted, stepped, onward, reached}
+use Rattle.rules.specs.Refusals.{outcome, run, wordsOf}
+use Rattle.rules.proofs.Checks.{few-channels}
+use Rattle.rules.proofs.InstantLaws.{Comes, instant-comes}
+use Rattle.rules.proofs.ListLaws.{by-test}
+use Rattle.rules.proofs.RunCases.{by-run}
 use Rattle.rules.proofs.Sound.{Sound}
 use Rattle.rules.proofs.Reach.{sound}
-use Rattle.rules.proofs.Accepted.{accepted}
-use Rattle.rules.proofs.Arrivals.{Faultless, faultless-arrivals, none-arrives}
+use Rattle.rules.proofs.Arrivals.{Faultless, none-arrives}
 use Rattle.rules.proofs.WordLaws.{time-of-word, channel-of-word, word-fits, Rising, over, next, rising-within, rising-append, rising-joined, rising-at, rising-fits}
 
 -- v stands before w: by time, and within an instant by channel
@@ -81,12 +82,6 @@ before-next t r =
     let on : t * 2 ^ 8 ≤ suc t * 2 ^ 8 = omega arith in
     rising-within (le-refl 0) on r
 
-few-channels : (net : Network) → Obeys net → length (net .channels) ≤ 64
-unfolding countsOk
-few-channels net obeys =
-    by-test (leb (length (net .channels)) 64) (leb-true (length (net .channels)) 64)
-    (λ e. true-or-false (simp (e, and-false) at (obeys .counts)) refl)
-
 module _ (net : Network) (arrivals : List ℕ) (obeys : Obeys net) (faultless : Faultless net arrivals) where
   module _ (t : ℕ) (early : t < 2 ^ 24) (st : State) (s : Sound net t st) where
     channel-in-place : (c : ℕ) → c < length (net .channels) → InPlace t c (cond (isOut (channelOf net c)) (map (word c t) (written net arrivals t st c)) [])
@@ -109,14 +104,10 @@ module _ (net : Network) (arrivals : List ℕ) (obeys : Obeys net) (faultless : 
         let high : t * 2 ^ 8 + n ≤ suc t * 2 ^ 8 = omega arith in
         rising-within low high (rising-joined _ (t * 2 ^ 8) n channel-in-place 0 n (zero-add n))
 
-    onward-before : (room : ℕ) (words : List ℕ) → Earlier t words → Earlier (suc t) (wordsOf (outcome (onward net arrivals room t (running words st))))
-    unfolding onward instant judged
-    onward-before room words r =
-        let full = lowest (length (net .channels)) (overfull net (afterWrites net arrivals t st)) in
-        by-test (ltb full (length (net .channels))) (λ e. rw e (before-next t r))
-        (λ e.
-        by-test (ltb (room - length words) (length (outWords net arrivals t st))) (λ g. rw (e, g) (before-next t r))
-        (λ g. rw (e, g) (rising-append r instant-rising)))
+    step-before : {room : ℕ} {step : Step} (words : List ℕ) → Earlier t words → Comes net arrivals room t st step → Earlier (suc t) (wordsOf (outcome (stepped words t step)))
+    step-before words r (Comes.full c below found) = before-next t r
+    step-before words r Comes.crowded = before-next t r
+    step-before words r (Comes.on under fits) = rising-append r instant-rising
 
   reached-before : (room t : ℕ) → t ≤ 2 ^ 24 → Earlier t (wordsOf (outcome (reached net arrivals room t)))
   unfolding reached
@@ -124,28 +115,15 @@ module _ (net : Network) (arrivals : List ℕ) (obeys : Obeys net) (faultless : 
   reached-before room (suc t) h = step (reached net arrivals room t) refl (reached-before room t (omega arith))
     where
       step : (r : Reached) → reached net arrivals room t ≡ r → Earlier t (wordsOf (outcome r)) → Earlier (suc t) (wordsOf (outcome (onward net arrivals room t r)))
-      step (running words st) e r = onward-before t h st (sound net arrivals room t words st obeys e) room words r
+      step (running words st) e r =
+          unfold onward in step-before t h st (sound net arrivals room t words st obeys e) words r (instant-comes net arrivals (room - length words) t st)
       step (halted words number i channel) e r = unfold onward in before-next t r
 
 none-ordered : Ordered []
 none-ordered = record { fit = λ i h. absurd (not-suc-le-zero h); before = λ i j before h. absurd (not-suc-le-zero h) }
 
--- by the two outcomes of a reading
-by-reading : {A P : Type 0} (r : Reading A) → ((number place : ℕ) → r ≡ refusal number place → P) → ((a : A) → r ≡ read a → P) → P
-by-reading (refusal number place) refuses reads = refuses number place refl
-by-reading (read a) refuses reads = reads a refl
-
 -- the words of every run, for every input
 pub run-ordered : (table : List ℕ) (horizon : ℕ) (arrivals : List ℕ) (room : ℕ) → Ordered (wordsOf (run table horizon arrivals room))
-unfolding run
 run-ordered table horizon arrivals room =
-    by-reading (network table) (λ number place e. rw e none-ordered)
-    (λ net e.
-    by-test (leb horizon 16777215)
-    (λ h.
-    by-test (eqb (faultyArrival net arrivals) (length arrivals))
-    (λ g.
-    let early : suc horizon ≤ 2 ^ 24 = omega (arith, leb-true horizon 16777215 h) in
-    rw (e, h, g) (rising-ordered (reached-before net arrivals (accepted table net e) (faultless-arrivals net arrivals g) room (suc horizon) early)))
-    (λ g. rw (e, h, g) none-ordered))
-    (λ h. rw (e, h) none-ordered))
+    by-run (λ o. Ordered (wordsOf o)) table horizon arrivals room (λ number place e. none-ordered) none-ordered (λ place. none-ordered)
+    (λ net obeys soon faultless. rising-ordered (reached-before net arrivals obeys faultless room (suc horizon) (omega arith)))

@@ -20,8 +20,8 @@ use Rattle.rules.specs.Network.{InBits, nodeAmong, channelAmong, countsO
 use Rattle.rules.specs.Table.{fieldAt, read, Header, headerAt, nodeAt, nodePiece, nodesUpTo, channelAt, tokenPiece, tokensUpTo, Channels, withChannel, channelPiece, channelsUpTo}
 use Rattle.rules.proofs.FieldLaws.{field-below, token-fits}
 use Rattle.rules.proofs.ListLaws.{and-left}
-use Rattle.rules.proofs.LongerLists.{length-more, total-more, pairs-more, entries-more}
-use Rattle.rules.proofs.ReadingLaws.{Gives, read-gives, then-gives, unless-gives, unless-then-gives, piece-then-gives}
+use Rattle.rules.proofs.LongerLists.{length-more, total-more, pairs-more}
+use Rattle.rules.proofs.ReadingLaws.{Gives, read-gives, then-gives, unless-gives, unless-then-gives, piece-then-gives, Entries, entries-read}
 
 -- a header that was read has lawful counts
 pub header-read : (s : List ℕ) → Gives (λ h. countsOk (h .nodes) (h .channels) ≡ true) (headerAt s)
@@ -46,26 +46,14 @@ node-read s n =
     piece-then-gives s (24 + 69 * n) 69 node _
     (λ there. unless-gives (nodeOk node) 4 n node (λ h. record { lawful = h; fits = token-fits s (24 + 69 * n + 37) }))
 
--- nodes that were read: as many as were asked for, each lawful
-pub record NodesRead (n : ℕ) (nodes : List Node) : Type 0 where
-  pub count : length nodes ≡ n
-  pub each : (i : ℕ) → i < length nodes → NodeRead (nodeAmong nodes i)
-
-pub nodes-read : (s : List ℕ) (n : ℕ) → Gives (NodesRead n) (nodesUpTo s n)
+-- as many nodes as were asked for, each lawful
+pub nodes-read : (s : List ℕ) (n : ℕ) → Gives (Entries NodeRead (nodeAmong [] 0) n) (nodesUpTo s n)
 unfolding nodesUpTo
-nodes-read s zero = read-gives (record { count = refl; each = λ i h. absurd (not-suc-le-zero h) })
-nodes-read s (suc n) =
-    then-gives (nodes-read s n)
-    (λ nodes front.
-    then-gives (node-read s n)
-    (λ node new.
-    read-gives
-    (record { count = length-more nodes node ∙ ap suc (front .count); each = entries-more NodeRead nodes node _ (front .each) new })))
+nodes-read s = entries-read (nodesUpTo s) (nodePiece s) refl (λ n. refl) (node-read s)
 
--- tokens that were read: as many as were asked for, each in 32 bits
-pub record TokensRead (n : ℕ) (tokens : List ℤ) : Type 0 where
-  pub count : length tokens ≡ n
-  pub fit : (i : ℕ) → i < length tokens → SFits w32 (getD tokens i (pos 0))
+-- as many tokens as were asked for, each in 32 bits
+abbrev pub TokensRead : ℕ → List ℤ → Type 0
+TokensRead n tokens = Entries (SFits w32) (pos 0) n tokens
 
 token-read : (s : List ℕ) (at : ℕ) → Gives (SFits w32) (tokenPiece s at)
 unfolding tokenPiece
@@ -73,22 +61,15 @@ token-read s at = unless-gives (leb (at + 32) (8 * length s)) 1 at (signed (fiel
 
 pub tokens-read : (s : List ℕ) (at n : ℕ) → Gives (TokensRead n) (tokensUpTo s at n)
 unfolding tokensUpTo
-tokens-read s at zero = read-gives (record { count = refl; fit = λ i h. absurd (not-suc-le-zero h) })
-tokens-read s at (suc n) =
-    then-gives (tokens-read s at n)
-    (λ tokens front.
-    then-gives (token-read s (at + 32 * n))
-    (λ token new.
-    read-gives
-    (record { count = length-more tokens token ∙ ap suc (front .count); fit = entries-more (SFits w32) tokens token _ (front .fit) new })))
+tokens-read s at = entries-read (tokensUpTo s at) (λ n. tokenPiece s (at + 32 * n)) refl (λ n. refl) (λ n. token-read s (at + 32 * n))
 
 -- a channel that was read behind others: lawful fields, and not too much capacity together with theirs
-record ChannelRead (nodes before : ℕ) (ch : Channel) : Type 0 where
-  lawful : channelOk nodes ch ≡ true
-  inBits : InBits ch
-  enough : before + ch .capacity ≤ 1024
+pub record ChannelRead (nodes before : ℕ) (ch : Channel) : Type 0 where
+  pub lawful : channelOk nodes ch ≡ true
+  pub inBits : InBits ch
+  pub enough : before + ch .capacity ≤ 1024
 
-channel-read : (s : List ℕ) (nodes c at before : ℕ) → Gives (ChannelRead nodes before) (channelPiece s nodes c at before)
+pub channel-read : (s : List ℕ) (nodes c at before : ℕ) → Gives (ChannelRead nodes before) (channelPiece s nodes c at before)
 unfolding channelPiece channelAt
 channel-read s nodes c at before =
     let ch = channelAt s at in

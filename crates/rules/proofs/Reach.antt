@@ -1,39 +1,28 @@
 -- Every state that a run reaches is sound: the state at the start is, and an instant that goes on leads from a sound state to a sound one.
 -- Assumes nothing.
-use Prim.Native.Nat.{ℕ, zero, suc, _≤_, _<_}
-use native.Mathlib.Omega.{arith}
+use Prim.Native.Nat.{ℕ, zero, suc, _<_}
 use mathlib.Core.Bool.{false}
 use mathlib.Core.List.{List, []}
 use mathlib.Core.Option.{Option, none}
 use mathlib.Core.Path.{_≡_, subst}
-use lib.Dec.{ltb}
-use lib.ListN.{getD, length, List·getD-eq-default}
-use borrow.Author.Tests.{ltb-true, ltb-false}
+use lib.ListN.{length}
 use Rattle.rules.specs.Network.{Network, Obeys, nodeOf, channelOf}
 use Rattle.rules.specs.Instant.{Waiting, State, waitingOf, heldIn, initial, dueNow, arriving, written, afterWrites, overfull, goesAhead, heldAfter, afterReads, running, reached}
 use Rattle.rules.proofs.Checks.{fields-of}
 use Rattle.rules.proofs.InstantLaws.{length-writes, writes-at, length-waiting, waiting-at, length-held, held-at, Came, reached-came}
-use Rattle.rules.proofs.ListLaws.{length-tab, getD-tab, by-test}
+use Rattle.rules.proofs.ListLaws.{length-tab, getD-tab}
+use Rattle.rules.proofs.LongerLists.{at-any}
 use Rattle.rules.proofs.Sound.{Sound}
 use Rattle.rules.proofs.TokenLaws.{AllFit, none-fit, append-fit, arriving-fit, Holds, initial-holds, writes-hold, reads-hold}
 use Rattle.rules.proofs.WaitLaws.{Waits, entry-waits, due-fit, waits-after}
-
--- what each entry of a list has, and what stands behind its end
-getD-has : {A : Type 0} (P : ℕ → A → Type 0) (l : List A) (d : A) (n : ℕ) → length l ≡ n
-    → ((i : ℕ) → i < n → P i (getD l i d)) → ((i : ℕ) → P i d) → (i : ℕ) → P i (getD l i d)
-getD-has P l d n len each behind i =
-    by-test (ltb i n) (λ e. each i (ltb-true i n e))
-    (λ e.
-    let past : length l ≤ i = omega (arith, ltb-false i n e) in
-    rw (List·getD-eq-default l d past) (behind i))
 
 -- a state is sound by its entries
 sound-by : (net : Network) (t : ℕ) (st : State) → length (st .waiting) ≡ length (net .nodes) → length (st .held) ≡ length (net .channels)
     → ((n : ℕ) → n < length (net .nodes) → Waits (nodeOf net n) t (waitingOf st n))
     → ((c : ℕ) → c < length (net .channels) → Holds (channelOf net c) (heldIn (st .held) c)) → Sound net t st
 sound-by net t st nodes channels waits holds =
-    let waiting = getD-has (λ n. Waits (nodeOf net n) t) (st .waiting) none (length (net .nodes)) nodes waits (λ n. tt) in
-    let fit = getD-has (λ c. AllFit) (st .held) [] (length (net .channels)) channels (λ c below. holds c below .fit) (λ c. none-fit) in
+    let waiting = at-any (λ n. Waits (nodeOf net n) t) (st .waiting) none (length (net .nodes)) nodes waits (λ n. tt) in
+    let fit = at-any (λ c. AllFit) (st .held) [] (length (net .channels)) channels (λ c below. holds c below .fit) (λ c. none-fit) in
     record {
       nodes = nodes;
       channels = channels;
@@ -87,7 +76,7 @@ module _ (net : Network) (arrivals : List ℕ) (t : ℕ) (st : State) (obeys : O
 
   pub after-writes-fit : (c : ℕ) → AllFit (heldIn (afterWrites net arrivals t st) c)
   after-writes-fit =
-      getD-has (λ c. AllFit) (afterWrites net arrivals t st) [] (length (net .channels)) (length-writes net arrivals t st)
+      at-any (λ c. AllFit) (afterWrites net arrivals t st) [] (length (net .channels)) (length-writes net arrivals t st)
       (λ c below. after-writes-holds c below .fit) (λ c. none-fit)
 
   after-reads-holds : (c : ℕ) → c < length (net .channels) → Holds (channelOf net c) (heldAfter net (afterWrites net arrivals t st) t c)
@@ -111,6 +100,6 @@ sound net arrivals room zero words st obeys e =
     let same : initial net ≡ st = cc in
     rw (← same) (initial-sound net obeys)
 sound net arrivals room (suc t) words st obeys e =
-    let came : Came net arrivals room t words st = reached-came net arrivals room t words st e in
+    let came : Came net arrivals room t st = reached-came net arrivals room t words st e in
     let before = sound net arrivals room t (came .before) (came .old) obeys (came .running) in
     rw (came .goes .after) (afterReads-sound net arrivals t (came .old) obeys before (came .goes .notOverfull))

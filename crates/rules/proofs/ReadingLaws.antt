@@ -1,15 +1,16 @@
--- Laws that take a successful reading apart: what it went through was read, and every test on the way passed; and that a refusal on the
+-- What a reading gives, if it gives anything: what it went through was read, and every test on the way passed; and that a refusal on the
 -- way stands. Assumes nothing.
-use Prim.Native.Nat.{ℕ, zero, suc, _+_, _*_, _≤_}
-use native.Mathlib.Nat.{add-zero, add-suc}
+use Prim.Native.Nat.{ℕ, zero, suc, _+_, _*_, _≤_, _<_}
+use native.Mathlib.Nat.{not-suc-le-zero, add-zero, add-suc}
 use native.Mathlib.Omega.{arith}
 use mathlib.Core.Bool.{Bool, true, false}
-use mathlib.Core.List.{List}
-use mathlib.Core.Path.{_≡_, refl}
+use mathlib.Core.List.{List, [], _∷_, _++_}
+use mathlib.Core.Path.{_≡_, refl, ap, _∙_}
 use lib.Dec.{leb}
-use lib.ListN.{length}
+use lib.ListN.{length, getD}
 use borrow.Author.Tests.{leb-true}
 use Rattle.rules.specs.Table.{Reading, refusal, read, _then_, unless, piece, nodesUpTo, tokensUpTo, channelsUpTo}
+use Rattle.rules.proofs.LongerLists.{length-more, entries-more}
 
 pub read-same : {A : Type 0} {a b : A} → _≡_ {A = Reading A} (read a) (read b) → a ≡ b
 read-same e = cc
@@ -18,24 +19,10 @@ read-same e = cc
 pub refused-or-read : {A P : Type 0} {number place : ℕ} {b : A} → _≡_ {A = Reading A} (refusal number place) (read b) → P
 refused-or-read e = let z : _≡_ {A = ℕ} 0 1 = cc in absurd (omega arith)
 
--- a reading that went on: what was read first, and what the rest made of it
-pub record Then {A B : Type 0} (r : Reading A) (go : A → Reading B) (b : B) : Type 0 where
-  pub value : A
-  pub first : r ≡ read value
-  pub second : go value ≡ read b
-
-pub then-read : {A B : Type 0} (r : Reading A) (go : A → Reading B) (b : B) → (r then go) ≡ read b → Then r go b
-then-read (refusal number place) go b e = refused-or-read e
-then-read (read a) go b e = record { value = a; first = refl; second = e }
-
-pub unless-read : {A : Type 0} (test : Bool) (number place : ℕ) (a b : A) → unless test number place a ≡ read b → (test ≡ true) × (a ≡ b)
-unless-read true number place a b e = (refl, read-same e)
-unless-read false number place a b e = refused-or-read e
-
-pub piece-read : {A : Type 0} (s : List ℕ) (at width : ℕ) (a b : A) → piece s at width a ≡ read b → (at + width ≤ 8 * length s) × (a ≡ b)
-piece-read s at width a b e =
-    let both = unless-read (leb (at + width) (8 * length s)) 1 at a b e in
-    (leb-true (at + width) (8 * length s) (both .0), both .1)
+-- by the two outcomes of a reading
+pub by-reading : {A P : Type 0} (r : Reading A) → ((number place : ℕ) → r ≡ refusal number place → P) → ((a : A) → r ≡ read a → P) → P
+by-reading (refusal number place) refuses reads = refuses number place refl
+by-reading (read a) refuses reads = reads a refl
 
 -- what a reading gives, if it gives anything, has the property P
 pub record Gives {A : Type 0} (P : A → Type 0) (r : Reading A) : Type 0 where
@@ -45,12 +32,8 @@ pub read-gives : {A : Type 0} {P : A → Type 0} {a : A} → P a → Gives P (re
 read-gives h = record { given = λ b e. rw (← read-same e) h }
 
 pub then-gives : {A B : Type 0} {Q : A → Type 0} {P : B → Type 0} {r : Reading A} {go : A → Reading B} → Gives Q r → ((a : A) → Q a → Gives P (go a)) → Gives P (r then go)
-then-gives {r} {go} first rest =
-    record {
-      given = λ b e.
-          let cut = then-read r go b e in
-          rest (cut .value) (first .given (cut .value) (cut .first)) .given b (cut .second);
-    }
+then-gives {r = refusal number place} first rest = record { given = λ b e. refused-or-read e }
+then-gives {r = read a} first rest = rest a (first .given a refl)
 
 pub unless-gives : {A : Type 0} {P : A → Type 0} (test : Bool) (number place : ℕ) (a : A) → (test ≡ true → P a) → Gives P (unless test number place a)
 unless-gives true number place a passed = read-gives (passed refl)
@@ -65,6 +48,23 @@ pub piece-then-gives : {A B : Type 0} {P : B → Type 0} (s : List ℕ) (at widt
 piece-then-gives s at width a go there =
     let fits = leb (at + width) (8 * length s) in
     unless-then-gives fits 1 at a go (λ h. there (leb-true (at + width) (8 * length s) h))
+
+-- a list of n entries, each with the property P
+pub record Entries {A : Type 0} (P : A → Type 0) (d : A) (n : ℕ) (l : List A) : Type 0 where
+  pub count : length l ≡ n
+  pub each : (i : ℕ) → i < length l → P (getD l i d)
+
+-- where each reading reads one entry more, all entries have what the readings of one give
+pub entries-read : {A : Type 0} {P : A → Type 0} {d : A} (f : ℕ → Reading (List A)) (one : ℕ → Reading A) → f 0 ≡ read []
+    → ((n : ℕ) → f (suc n) ≡ (f n then λ l. one n then λ a. read (l ++ (a ∷ [])))) → ((n : ℕ) → Gives P (one n)) → (n : ℕ) → Gives (Entries P d n) (f n)
+entries-read f one none next gives zero =
+    rw none (read-gives (record { count = refl; each = λ i h. absurd (not-suc-le-zero h) }))
+entries-read {P = P} {d = d} f one none next gives (suc n) =
+    rw (next n)
+    (then-gives (entries-read f one none next gives n)
+    (λ l front.
+    then-gives (gives n)
+    (λ a new. read-gives (record { count = length-more l a ∙ ap suc (front .count); each = entries-more P l a d (front .each) new }))))
 
 -- where each reading goes on from the one before it, a refusal stands in all later ones
 refused-on : {A : Type 0} (f : ℕ → Reading A) (go : ℕ → A → Reading A) → ((n : ℕ) → f (suc n) ≡ (f n then go n)) → (n k number place : ℕ) → f n ≡ refusal number place → f (n + k) ≡ refusal number place

@@ -1,6 +1,6 @@
 -- Laws of what a channel holds: every token is in 32 bits, a register holds one token, a queue no more than its capacity, and nothing is
 -- held for the outside, at the start and through an instant's writes and reads. Assumes nothing.
-use Prim.Native.Nat.{ℕ, zero, suc, _+_, _≤_}
+use Prim.Native.Nat.{ℕ, zero, suc, _+_, _≤_, _<_}
 use native.Mathlib.Omega.{arith}
 use mathlib.Core.Bool.{Bool, true, false, cond, not, _&&_}
 use mathlib.Core.List.{List, [], _∷_, _++_}
@@ -18,6 +18,7 @@ use Rattle.rules.specs.Network.{isRegister, isOut}
 use Rattle.rules.specs.Instant.{timeIn, channelIn, arriving, keeping, oldest}
 use Rattle.rules.proofs.Checks.{ChannelFields}
 use Rattle.rules.proofs.KindLaws.{round-fits, either-has}
+use Rattle.rules.proofs.LongerLists.{length-last, at-any}
 
 -- every token of a list is in 32 bits
 pub record AllFit (l : List ℤ) : Type 0 where
@@ -25,6 +26,9 @@ pub record AllFit (l : List ℤ) : Type 0 where
 
 pub none-fit : AllFit []
 none-fit = record { at = λ i. record { sfits = omega arith } }
+
+pub entries-fit : (l : List ℤ) → ((i : ℕ) → i < length l → SFits w32 (getD l i (pos 0))) → AllFit l
+entries-fit l each = record { at = at-any (λ i. SFits w32) l (pos 0) (length l) refl each (none-fit .at) }
 
 rest-fit : {x : ℤ} {xs : List ℤ} → AllFit (x ∷ xs) → AllFit xs
 rest-fit f = record { at = λ i. f .at (suc i) }
@@ -62,12 +66,6 @@ keeping-fit ch old new fo fn =
     let both = append-fit old new fo fn in
     either-has AllFit (isOut ch) none-fit (either-has AllFit (isRegister ch) (last-fit (old ++ new) both) both)
 
-length-last : (l : List ℤ) → 1 ≤ length l → length (lastOf l) ≡ 1
-unfolding lastOf
-length-last [] h = absurd (omega arith)
-length-last (x ∷ []) h = refl
-length-last (x ∷ y ∷ ys) h = length-last (y ∷ ys) (omega arith)
-
 -- what a channel may hold before an instant
 pub record Holds (ch : Channel) (l : List ℤ) : Type 0 where
   pub register : isRegister ch ≡ true → length l ≡ 1
@@ -80,7 +78,7 @@ empty [] h = refl
 empty (x ∷ xs) h = absurd (omega arith)
 
 -- the initial tokens
-pub initial-holds : (ch : Channel) (l : List ℤ) → ChannelFields ch → length l ≡ ch .initial → AllFit l → Holds ch l
+pub initial-holds : {nodes : ℕ} (ch : Channel) (l : List ℤ) → ChannelFields nodes ch → length l ≡ ch .initial → AllFit l → Holds ch l
 initial-holds ch l fields count fit =
     record {
       register = λ e. count ∙ fields .register e;
@@ -94,7 +92,7 @@ not-overfull : (ch : Channel) (l : List ℤ) → (not (isRegister ch) && ltb (ch
 not-overfull ch l under e = ltb-false (ch .capacity) (length l) (rw e at under)
 
 -- the old tokens and the new ones, where they are not too many
-pub writes-hold : (ch : Channel) (old new : List ℤ) → ChannelFields ch → Holds ch old → AllFit new
+pub writes-hold : {nodes : ℕ} (ch : Channel) (old new : List ℤ) → ChannelFields nodes ch → Holds ch old → AllFit new
     → (not (isRegister ch) && ltb (ch .capacity) (length (keeping ch old new))) ≡ false → Holds ch (keeping ch old new)
 unfolding keeping
 writes-hold ch old new fields before fit under =

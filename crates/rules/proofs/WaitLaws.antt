@@ -74,35 +74,34 @@ released-waits node t (some v) fields multiple fits = (
 )
 
 -- one node's reads, from tokens
-module _ (net : Network) (held : List (List ℤ)) (t : ℕ) (st : State) (n : ℕ) where
-  input-fits : ((c : ℕ) → AllFit (heldIn held c)) → (p : ℕ) → SFits w32 (inputAt net held n p)
+module _ (net : Network) (held : List (List ℤ)) (n : ℕ) (fit : (c : ℕ) → AllFit (heldIn held c)) where
+  input-fits : (p : ℕ) → SFits w32 (inputAt net held n p)
   unfolding inputAt
-  input-fits fit p =
+  input-fits p =
       let c = lowest (length (net .channels)) (serves net n p) in
       oldest-fits (heldIn held c) (fit c)
 
-  pub resultOf-fits : ((c : ℕ) → AllFit (heldIn held c)) → SFits w32 (nodeOf net n .constant) → (v : ℤ) → resultOf net held n ≡ some v → SFits w32 v
+  pub resultOf-fits : SFits w32 (nodeOf net n .constant) → (v : ℤ) → resultOf net held n ≡ some v → SFits w32 v
   unfolding resultOf
-  resultOf-fits fit constant v =
+  resultOf-fits constant v =
       let input = inputAt net held n in
-      let fits = input-fits fit in
-      result-fits (nodeOf net n .kind) (nodeOf net n .constant) (input 0) (input 1) (input 2) v constant (fits 0) (fits 1) (fits 2)
+      result-fits (nodeOf net n .kind) (nodeOf net n .constant) (input 0) (input 1) (input 2) v constant (input-fits 0) (input-fits 1) (input-fits 2)
 
-  -- a node that goes ahead is released
-  pub ahead-multiple : goesAhead net held t n ≡ true → t % nodeOf net n .period ≡ 0
-  unfolding goesAhead
-  ahead-multiple e =
-      let multiple = eqb (t % nodeOf net n .period) 0 in
-      eqb-true (t % nodeOf net n .period) 0
-      (and-right (ltb n (length (net .nodes))) multiple (and-left (released net t n) (ready net held n) e))
+-- a node that goes ahead is released
+pub ahead-multiple : (net : Network) (held : List (List ℤ)) (t n : ℕ) → goesAhead net held t n ≡ true → t % nodeOf net n .period ≡ 0
+unfolding goesAhead
+ahead-multiple net held t n e =
+    let multiple = eqb (t % nodeOf net n .period) 0 in
+    eqb-true (t % nodeOf net n .period) 0
+    (and-right (ltb n (length (net .nodes))) multiple (and-left (released net t n) (ready net held n) e))
 
-  pub waits-after : Obeys net → ((c : ℕ) → AllFit (heldIn held c)) → n < length (net .nodes)
-      → Waits (nodeOf net n) t (waitingOf st n) → Waits (nodeOf net n) (suc t) (waitingAfter net held t st n)
-  unfolding waitingAfter
-  waits-after obeys fit below waits =
-      by-test (goesAhead net held t n)
-      (λ e.
-      rw e
-      (released-waits (nodeOf net n) t (resultOf net held n) (node-fields (nodeOf net n) (obeys .nodeFields n below))
-      (ahead-multiple e) (resultOf-fits fit (obeys .constants n below))))
-      (λ e. rw e (waits-on (nodeOf net n) t (waitingOf st n) waits))
+pub waits-after : (net : Network) (held : List (List ℤ)) (t : ℕ) (st : State) (n : ℕ) → Obeys net → ((c : ℕ) → AllFit (heldIn held c)) → n < length (net .nodes)
+    → Waits (nodeOf net n) t (waitingOf st n) → Waits (nodeOf net n) (suc t) (waitingAfter net held t st n)
+unfolding waitingAfter
+waits-after net held t st n obeys fit below waits =
+    by-test (goesAhead net held t n)
+    (λ e.
+    rw e
+    (released-waits (nodeOf net n) t (resultOf net held n) (node-fields (nodeOf net n) (obeys .nodeFields n below))
+    (ahead-multiple net held t n e) (resultOf-fits net held n fit (obeys .constants n below))))
+    (λ e. rw e (waits-on (nodeOf net n) t (waitingOf st n) waits))

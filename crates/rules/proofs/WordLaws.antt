@@ -8,25 +8,25 @@ use lib.IntN.{ℤ}
 use lib.ListN.{length, getD}
 use mir.Syntax.{w32}
 use mir.Val.{SFits}
-use mir.ValLaws.{ofZ-fits, toZ-ofZ}
 use Rattle.rules.specs.Lists.{tabFrom, joined}
 use Rattle.rules.specs.Kinds.{signed, pattern}
 use Rattle.rules.specs.Instant.{word, timeIn, channelIn, valueIn}
+use Rattle.rules.proofs.KindLaws.{pattern-below, signed-pattern}
 
 -- what a word is made of is what is read from it
 pub time-of-word : (c t : ℕ) (v : ℤ) → t < 2 ^ 24 → SFits w32 v → timeIn (word c t v) ≡ t
-time-of-word c t v h fits = omega (arith, ofZ-fits w32 v fits .fits)
+time-of-word c t v h fits = omega (arith, pattern-below v fits)
 
 pub channel-of-word : (c t : ℕ) (v : ℤ) → t < 2 ^ 24 → SFits w32 v → channelIn (word c t v) ≡ c
-channel-of-word c t v h fits = omega (arith, ofZ-fits w32 v fits .fits)
+channel-of-word c t v h fits = omega (arith, pattern-below v fits)
 
 pub value-of-word : (c t : ℕ) (v : ℤ) → t < 2 ^ 24 → SFits w32 v → valueIn (word c t v) ≡ v
 value-of-word c t v h fits =
-    let bits : word c t v % 2 ^ 32 ≡ pattern v = omega (arith, ofZ-fits w32 v fits .fits) in
-    ap signed bits ∙ toZ-ofZ w32 v fits
+    let bits : word c t v % 2 ^ 32 ≡ pattern v = omega (arith, pattern-below v fits) in
+    ap signed bits ∙ signed-pattern v fits
 
 pub word-fits : (c t : ℕ) (v : ℤ) → c < 2 ^ 8 → t < 2 ^ 24 → SFits w32 v → word c t v < 2 ^ 64
-word-fits c t v few h fits = omega (arith, ofZ-fits w32 v fits .fits)
+word-fits c t v few h fits = omega (arith, pattern-below v fits)
 
 -- the entries are 64-bit numbers whose places rise, from low on and below high
 pub data Rising (place : ℕ → ℕ) : ℕ → ℕ → List ℕ → Type 0 where

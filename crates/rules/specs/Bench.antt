@@ -180,6 +180,8 @@ slips =
     ∷ record { asked = networkRun fullQueue 2 (word 0 1 (pos 2) ∷ word 0 1 (pos 3) ∷ []) 0; said = runs (stopped [] 11 1 0) }
     -- a version that is not 1 is found before the counts
     ∷ record { asked = checkOf (0 ∷ 0 ∷ 0 ∷ []); said = checks (record { number = 2; place = 0; nodes = 0; channels = 0 }) }
+    -- a deadline of zero: the table of the bench with a deadline of 0 for 10
+    ∷ record { asked = checkOf (0x10 ∷ 0x40 ∷ 0x80 ∷ 0x00 ∷ 0x00 ∷ 0x50 ∷ 0x00 ∷ 0x00 ∷ 0x00 ∷ 0x00 ∷ 0x00 ∷ 0x38 ∷ 0x0F ∷ 0xC0 ∷ 0x20 ∷ 0x00 ∷ []); said = checks (record { number = 4; place = 0; nodes = 0; channels = 0 }) }
     -- of several arrivals at one instant a register keeps the last
     ∷ record { asked = networkRun sampled 20 (word 0 10 (pos 8) ∷ word 0 10 (pos 9) ∷ []) 8; said = runs (ended (word 1 10 (pos 5) ∷ word 1 20 (pos 9) ∷ [])) }
     ∷ []

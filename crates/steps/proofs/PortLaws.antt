@@ -1,32 +1,22 @@
 -- Laws of the ports of a network: each channel that a node reads is the one channel at its port. Assumes nothing.
-use Prim.Native.Nat.{ℕ, zero, suc, _+_, _≤_, _<_}
-use native.Mathlib.Nat.{not-suc-le-zero}
+use Prim.Native.Nat.{ℕ, zero, suc, _≤_, _<_}
 use native.Mathlib.Omega.{arith}
-use mathlib.Core.Bool.{Bool, true, false, cond}
-use mathlib.Core.Path.{_≡_, refl, _∙_, ap}
+use mathlib.Core.Bool.{Bool, true, false}
+use mathlib.Core.Path.{_≡_, refl, _∙_}
 use lib.Dec.{eqb, leb, ltb}
 use lib.ListN.{length}
-use borrow.Author.Tests.{ltb-true, ltb-false, lt-ltb, leb-true, eqb-true, eq-eqb}
+use borrow.Author.Tests.{ltb-true, ltb-false, lt-ltb, leb-true, eq-eqb}
 use Rattle.rules.specs.Lists.{total, count, every, lowest}
 use Rattle.rules.specs.Kinds.{inputs}
-use Rattle.rules.specs.Network.{Network, Obeys, nodeOf, channelOf, serves, nodeOk, portsOk}
+use Rattle.rules.specs.Network.{Network, Obeys, nodeOf, channelOf, serves}
+use Rattle.rules.proofs.Agreeing.{count-more}
+use Rattle.rules.proofs.Checks.{node-fields, served}
 use Rattle.rules.proofs.ListLaws.{and-left, and-both, by-test, true-or-false, every-at, lowest-is, lowest-only}
 
 -- no number is counted
 pub count-none : (n : ℕ) (f : ℕ → Bool) → count n f ≡ 0 → (i : ℕ) → i < n → f i ≡ false
 unfolding count total
-count-none zero f e i below = absurd (not-suc-le-zero below)
-count-none (suc n) f e i below =
-    by-test (f n)
-    (λ y.
-    let more : count n f + 1 ≡ 0 = rw y at e in
-    absurd (omega arith))
-    (λ y.
-    let rest : count n f + 0 ≡ 0 = rw y at e in
-    by-test (ltb i n) (λ l. count-none n f (omega arith) i (ltb-true i n l))
-    (λ l.
-    let last : i ≡ n = omega (arith, ltb-false i n l) in
-    ap f last ∙ y))
+count-none n f e i below = by-test (f i) (λ y. absurd (omega (arith, count-more n 0 i f (omega arith) below y))) (λ y. y)
 
 pub none-counted : (n : ℕ) (f : ℕ → Bool) → ((i : ℕ) → i < n → f i ≡ false) → count n f ≡ 0
 unfolding count total
@@ -37,20 +27,8 @@ none-counted (suc n) f none =
 
 -- where one number is counted, none below it has the property
 count-alone : (n : ℕ) (f : ℕ → Bool) (i : ℕ) → count n f ≡ 1 → i < n → f i ≡ true → (j : ℕ) → j < i → f j ≡ false
-unfolding count total
-count-alone zero f i e below has j less = absurd (not-suc-le-zero below)
-count-alone (suc n) f i e below has j less =
-    by-test (f n)
-    (λ y.
-    let more : count n f + 1 ≡ 1 = rw y at e in
-    let rest : count n f ≡ 0 = omega arith in
-    count-none n f rest j (omega arith))
-    (λ y.
-    let more : count n f + 0 ≡ 1 = rw y at e in
-    by-test (ltb i n) (λ l. count-alone n f i (omega arith) (ltb-true i n l) has j less)
-    (λ l.
-    let last : i ≡ n = omega (arith, ltb-false i n l) in
-    true-or-false has (ap f last ∙ y)))
+count-alone n f i e below has j less =
+    by-test (f j) (λ y. absurd (omega (arith, count-more i j j f (omega arith) less y, count-more n i i f (omega arith) below has))) (λ y. y)
 
 -- it is the lowest
 pub count-lowest : (n : ℕ) (f : ℕ → Bool) (i : ℕ) → count n f ≡ 1 → i < n → f i ≡ true → lowest n f ≡ i
@@ -73,18 +51,10 @@ inputs-few kind below = leb-true (inputs kind) 3 (every-at 12 (λ k. leb (inputs
 -- the ports of a node of a network that obeys its rules
 module _ (net : Network) (obeys : Obeys net) (n : ℕ) (below : n < length (net .nodes)) where
   few-inputs : inputs (nodeOf net n .kind) ≤ 3
-  unfolding nodeOk
-  few-inputs =
-      let kind = nodeOf net n .kind in
-      by-test (ltb kind 12) (λ e. inputs-few kind (ltb-true kind 12 e))
-      (λ e. true-or-false (obeys .nodeFields n below) (simp (nodeOk, e)))
-
-  served : (p : ℕ) → p < 4 → count (length (net .channels)) (serves net n p) ≡ cond (ltb p (inputs (nodeOf net n .kind))) 1 0
-  unfolding portsOk
-  served p h = eqb-true _ _ (every-at 4 _ (obeys .ports n below) p h)
+  few-inputs = inputs-few (nodeOf net n .kind) (node-fields (nodeOf net n) (obeys .nodeFields n below) .kind)
 
   served-once : (p : ℕ) → p < inputs (nodeOf net n .kind) → count (length (net .channels)) (serves net n p) ≡ 1
-  served-once p h = served p (omega (arith, few-inputs)) ∙ rw (lt-ltb p (inputs (nodeOf net n .kind)) h)
+  served-once p h = served net n (obeys .ports n below) p (omega (arith, few-inputs)) ∙ rw (lt-ltb p (inputs (nodeOf net n .kind)) h)
 
   -- the channel at a port is there, and the node reads it
   pub port-there : (p : ℕ) → p < inputs (nodeOf net n .kind) → lowest (length (net .channels)) (serves net n p) < length (net .channels)
@@ -97,7 +67,7 @@ module _ (net : Network) (obeys : Obeys net) (n : ℕ) (below : n < length (net 
 
   -- a port behind the inputs has no channel
   pub no-port : (p : ℕ) → p < 4 → ltb p (inputs (nodeOf net n .kind)) ≡ false → (c : ℕ) → c < length (net .channels) → serves net n p c ≡ false
-  no-port p h behind = count-none (length (net .channels)) (serves net n p) (served p h ∙ rw behind)
+  no-port p h behind = count-none (length (net .channels)) (serves net n p) (served net n (obeys .ports n below) p h ∙ rw behind)
 
   -- a channel that the node reads is at one of its ports
   pub read-in : (c : ℕ) → c < length (net .channels) → eqb (channelOf net c .reader) n ≡ true → channelOf net c .port < inputs (nodeOf net n .kind)

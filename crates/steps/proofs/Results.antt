@@ -1,4 +1,4 @@
--- Laws of tokens by their 32 bits, for a node's result: the bits read back, the token 0, and what each kind's result is on tokens that are
+-- Laws of tokens by their 32 bits, for a node's result: the bits read back, and what each kind's result is on tokens that are
 -- given by their bits. Assumes nothing.
 use Prim.Native.Nat.{ℕ, zero, suc, _+_, _-_, _*_, _/_, _%_, _^_, _≤_, _<_}
 use native.Mathlib.Nat.{div-le-self, div-lt-iff-lt-mul, pow-suc, zero-lt-suc}
@@ -6,18 +6,14 @@ use native.Mathlib.Omega.{arith}
 use mathlib.Core.Bool.{Bool, true, false, cond, not}
 use mathlib.Core.Path.{_≡_, refl, sym, _∙_, ap}
 use lib.Count.{onesIn, ones as countOnes, leadingZeros, ones-step, ones-le, leading-le}
-use lib.Dec.{eqb, ltb}
 use lib.IntN.{ℤ, pos, negsuc, negℤ}
 use lib.Signed.{ltZ, quotZ}
 use mir.Syntax.{w32}
 use mir.Val.{SFits}
-use mir.ValLaws.{ofZ-toZ, toZ-ofZ, toZ-pos}
-use borrow.Author.Tests.{ltb-true, ltb-false, ne-eqb}
+use mir.ValLaws.{toZ-ofZ, toZ-pos}
 use Rattle.rules.specs.Kinds.{signed, pattern, isZero, sum, difference, quotient, ones, firstBeam}
-use Rattle.rules.proofs.ListLaws.{by-test, true-or-false}
-
-pub pattern-signed : (n : ℕ) → n < 2 ^ 32 → pattern (signed n) ≡ n
-pattern-signed n h = ofZ-toZ w32 n (record { fits = h })
+use Rattle.rules.proofs.KindLaws.{pattern-signed}
+use Rattle.rules.proofs.ListLaws.{true-or-false}
 
 -- a token that is read from 32 bits, through its own bits
 pub read-back : (z : ℤ) (n : ℕ) → n < 2 ^ 32 → z ≡ signed n → signed (pattern z) ≡ signed n
@@ -26,11 +22,6 @@ read-back z n h e = ap (λ y. signed (pattern y)) e ∙ ap signed (pattern-signe
 -- and a test of two of them
 pub tested-back : (y z : ℤ) (a b : ℕ) → a < 2 ^ 32 → b < 2 ^ 32 → y ≡ signed a → z ≡ signed b → ltZ (signed a) (signed b) ≡ ltZ (signed (pattern y)) (signed (pattern z))
 tested-back y z a b below-a below-b ey ez = rw (read-back y a below-a ey, read-back z b below-b ez)
-
-pub zero-by-bits : (n : ℕ) → n < 2 ^ 32 → isZero (signed n) ≡ eqb n 0
-zero-by-bits n h =
-    by-test (ltb n 2147483648) (λ e. ap isZero (toZ-pos w32 n (ltb-true n 2147483648 e)))
-    (λ e. rw (e, ne-eqb n 0 (omega (arith, ltb-false n 2147483648 e))))
 
 pub choice-of-not : {A : Type 0} (test : Bool) (x y : A) → cond (not test) x y ≡ cond test y x
 choice-of-not true x y = refl

@@ -1,20 +1,20 @@
 -- The words of an instant are those of the rules: for each channel to the outside what its writer has due, since nothing arrives there.
 -- Assumes nothing.
-use Prim.Native.Nat.{ℕ, zero, suc, _+_, _≤_, _<_, _^_}
-use native.Mathlib.Nat.{zero-add, add-zero, suc-add, add-suc}
+use Prim.Native.Nat.{ℕ, zero, suc, _<_, _^_}
 use native.Mathlib.Omega.{arith}
-use mathlib.Core.Bool.{Bool, true, cond, _&&_, and-false}
-use mathlib.Core.List.{List, [], _∷_, _++_, map, append-nil, append-assoc}
+use mathlib.Core.Bool.{Bool, cond, _&&_}
+use mathlib.Core.List.{List, [], _∷_, _++_, map, append-nil}
 use mathlib.Core.Path.{_≡_, refl, sym, _∙_, ap, ap₂}
-use lib.Dec.{eqb, leb, ltb}
+use lib.Dec.{eqb, ltb}
 use lib.ListN.{length, getD, take}
-use borrow.Author.Tests.{ltb-true, lt-ltb, leb-true}
-use Rattle.rules.specs.declared.Channel.{Channel}
+use borrow.Author.Tests.{lt-ltb}
 use Rattle.rules.specs.Lists.{tabFrom, tab, joined}
 use Rattle.rules.specs.Kinds.{signed}
-use Rattle.rules.specs.Network.{Network, Obeys, channelOf, outside, isOut, countsOk, channelOk}
+use Rattle.rules.specs.Network.{Network, Obeys, channelOf, isOut}
 use Rattle.rules.specs.Instant.{State, dueNow, word, written, outWords}
-use Rattle.rules.proofs.ListLaws.{by-test, true-or-false}
+use Rattle.rules.proofs.Checks.{few-nodes, fields-of, end-node}
+use Rattle.rules.proofs.LongerLists.{tab-more, joined-more}
+use Rattle.rules.proofs.ListLaws.{by-test}
 use Rattle.rules.proofs.Sound.{Sound}
 use Rattle.rules.proofs.Arrivals.{Faultless, none-arrives}
 use Rattle.steps.specs.Rings.{Shape, Cells}
@@ -22,20 +22,6 @@ use Rattle.steps.specs.Writes.{wordsBelow, Gathered}
 use Rattle.steps.specs.Nodes.{Wires, Pendings, waitingBy}
 use Rattle.steps.specs.Represents.{Ways, Wired, Represents}
 use Rattle.steps.proofs.DueLaws.{due-of-waiting}
-
--- lists made by index, one after another: the last one stands at the end
-module _ {A : Type 0} (f : ℕ → List A) where
-  joined-from : (i n : ℕ) → joined (tabFrom f i (suc n)) ≡ joined (tabFrom f i n) ++ f (i + n)
-  unfolding joined tabFrom
-  joined-from i zero = append-nil (f i) ∙ ap f (sym (add-zero i))
-  joined-from i (suc n) =
-      ap (λ (l : List A). f i ++ l) (joined-from (suc i) n)
-      ∙ sym (append-assoc (f i) (joined (tabFrom f (suc i) n)) (f (suc i + n)))
-      ∙ ap (λ (k : ℕ). (f i ++ joined (tabFrom f (suc i) n)) ++ f k) (suc-add i n ∙ sym (add-suc i n))
-
-  joined-last : (n : ℕ) → joined (tab (suc n) f) ≡ joined (tab n f) ++ f n
-  unfolding tab
-  joined-last n = joined-from 0 n ∙ ap (λ (k : ℕ). joined (tabFrom f 0 n) ++ f k) (zero-add n)
 
 -- the words of channel c, by its writer
 abbrev wordsOf : ℕ → List ℕ → List ℕ → List ℕ → (ℕ → Bool) → ℕ → List ℕ
@@ -47,23 +33,7 @@ words-joined : (t : ℕ) (writer due value : List ℕ) (outs : ℕ → Bool) (f 
 unfolding wordsBelow joined tab tabFrom
 words-joined t writer due value outs f zero same = refl
 words-joined t writer due value outs f (suc n) same =
-    ap₂ _++_ (words-joined t writer due value outs f n (λ c h. same c (omega arith))) (same n (omega arith)) ∙ sym (joined-last f n)
-
--- a channel to the outside is written by a node
-out-writer : (nodes : ℕ) (ch : Channel) → channelOk nodes ch ≡ true → isOut ch ≡ true → ch .writer < nodes
-unfolding channelOk
-out-writer nodes ch ok out =
-    by-test (ltb (ch .writer) nodes) (λ e. ltb-true (ch .writer) nodes e)
-    (λ e.
-    by-test (eqb (ch .writer) outside)
-    (λ o. true-or-false (simp (o, out, and-false) at ok) refl)
-    (λ o. true-or-false (simp (e, o) at ok) refl))
-
-few-nodes : (net : Network) → Obeys net → length (net .nodes) ≤ 32
-unfolding countsOk
-few-nodes net obeys =
-    by-test (leb (length (net .nodes)) 32) (λ e. leb-true (length (net .nodes)) 32 e)
-    (λ e. true-or-false (simp (e, and-false) at (obeys .counts)) refl)
+    ap₂ _++_ (words-joined t writer due value outs f n (λ c h. same c (omega arith))) (same n (omega arith)) ∙ sym (ap joined (tab-more n f) ∙ joined-more (tab n f) (f n))
 
 -- the word of what is due of what waits
 word-of-waiting : (c due value t : ℕ) → t < 2 ^ 24 → cond (eqb due t) (word c t (signed value) ∷ []) [] ≡ map (word c t) (dueNow (waitingBy due value) t)
@@ -78,7 +48,7 @@ module _ (net : Network) (arrivals : List ℕ) (t : ℕ) (st : State) (s : Shape
       by-test (isOut (channelOf net c))
       (λ e.
       let n = channelOf net c .writer in
-      let inside : n < length (net .nodes) = out-writer (length (net .nodes)) (channelOf net c) (obeys .channelFields c below) e in
+      let inside : n < length (net .nodes) = end-node (length (net .nodes)) n (fields-of net obeys c below .writer) (fields-of net obeys c below .written e) in
       let few : n < 32 = omega (arith, few-nodes net obeys) in
       rw (e, wired .writer c below, lt-ltb n 32 few, none-arrives net arrivals obeys faultless t c below e, append-nil, rep .waits n inside)
       (word-of-waiting c (getD (p .due) n 0) (getD (p .value) n 0) t early))

@@ -10,6 +10,7 @@ use lib.ListN.{length, take, length-append}
 use lib.Seq.{take-all}
 use borrow.Author.Tests.{ltb-true, ltb-false, lt-ltb, le-ltb}
 use Rattle.rules.specs.Lists.{lastOf, lowest}
+use Rattle.rules.proofs.LongerLists.{last-of-one}
 use Rattle.rules.proofs.ListLaws.{by-test, lowest-is, lowest-only, lowest-none}
 use Rattle.steps.specs.Rings.{Shape, Cells, Rings, Wrote, heldAt, kept, over, registerAt, capacityOf}
 use Rattle.steps.proofs.RingLaws.{length-held}
@@ -26,12 +27,6 @@ unfolding lastOf
 last-twice [] more = refl
 last-twice (x ∷ []) more = refl
 last-twice (x ∷ y ∷ ys) more = last-twice (y ∷ ys) more
-
-last-of-one : (l : List ℕ) → length l ≡ 1 → lastOf l ≡ l
-unfolding lastOf
-last-of-one [] h = refl
-last-of-one (x ∷ []) h = refl
-last-of-one (x ∷ y ∷ ys) h = absurd (omega arith)
 
 -- what a channel keeps of two writes, one after the other
 kept-twice : (s : Shape) (c : ℕ) (old new more : List ℕ) → kept s c (kept s c old new) more ≡ kept s c old (new ++ more)

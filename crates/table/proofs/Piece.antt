@@ -2,14 +2,11 @@
 use Prim.Native.Nat.{ℕ, _+_, _≤_}
 use mathlib.Core.List.{List}
 use mathlib.Core.Path.{_≡_, sym, _∙_, ap}
-use lib.Dec.{leb}
-use borrow.Author.Tests.{leb-true}
 use Rattle.rules.specs.declared.Channel.{Channel}
 use Rattle.rules.specs.declared.Refusal.{Refusal}
-use Rattle.rules.specs.Network.{channelOk}
-use Rattle.rules.specs.Table.{read, channelAt, channelPiece}
+use Rattle.rules.specs.Table.{read, channelPiece}
 use Rattle.rules.proofs.Checks.{channel-fields}
-use Rattle.rules.proofs.ReadingLaws.{Gives, unless-gives, unless-then-gives, piece-then-gives}
+use Rattle.rules.proofs.Pieces.{channel-read}
 use Rattle.pieces.specs.declared.ChannelRead.{ChannelRead}
 use Rattle.table.specs.declared.Progress.{Progress}
 use Rattle.pieces.specs.Says.{refusedBy, channelSays}
@@ -20,20 +17,11 @@ pub record Room (together : ℕ) (ch : Channel) : Type 0 where
   pub within : ch .initial ≤ ch .capacity
   pub enough : together + ch .capacity ≤ 1024
 
-room-given : (s : List ℕ) (nodes c at together : ℕ) → Gives (Room together) (channelPiece s nodes c at together)
-unfolding channelPiece
-room-given s nodes c at together =
-    let ch = channelAt s at in
-    piece-then-gives s at 29 ch _
-    (λ there.
-    unless-then-gives (channelOk nodes ch) 5 c ch _
-    (λ lawful.
-    unless-gives (leb (together + ch .capacity) 1024) 6 c ch
-    (λ enough. record { within = channel-fields nodes ch lawful .within; enough = leb-true (together + ch .capacity) 1024 enough })))
-
 module _ (s : List ℕ) (nodes c at together : ℕ) where
   pub channel-room : {ch : Channel} → channelPiece s nodes c at together ≡ read ch → Room together ch
-  channel-room {ch} = room-given s nodes c at together .given ch
+  channel-room {ch} e =
+      let got = channel-read s nodes c at together .given ch e in
+      record { within = channel-fields nodes ch (got .lawful) .within; enough = got .enough }
 
   -- by what the piece is said to be, and the tokens behind it
   module _ {p : ChannelRead} (says : channelSays p ≡ channelPiece s nodes c at together) where

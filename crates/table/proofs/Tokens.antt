@@ -10,11 +10,10 @@ use mathlib.Core.Path.{_≡_, refl, _∙_}
 use lib.Dec.{leb}
 use lib.ListN.{length, set, length-map}
 use lib.Seq.{sets}
-use mir.Syntax.{w32}
-use mir.ValLaws.{ofZ-toZ}
 use Rattle.rules.specs.Kinds.{signed, pattern}
 use Rattle.rules.specs.Table.{refusal, fieldAt, tokenPiece, tokensUpTo}
 use Rattle.rules.proofs.FieldLaws.{field-below}
+use Rattle.rules.proofs.KindLaws.{pattern-signed}
 use Rattle.rules.proofs.Pieces.{tokens-count}
 use Rattle.rules.proofs.ReadingLaws.{tokens-refused}
 use Rattle.table.specs.Reads.{TokensDone}
@@ -26,7 +25,7 @@ sets-more l base (a ∷ vs) v = rw (sets-more (set l base a) (suc base) vs v, ad
 
 -- the bits of the token that a field of 32 bits stands for are the field
 pub token-pattern : (s : List ℕ) (at : ℕ) → pattern (signed (fieldAt s at 32)) ≡ fieldAt s at 32
-token-pattern s at = ofZ-toZ w32 (fieldAt s at 32) (record { fits = field-below s at 32 })
+token-pattern s at = pattern-signed (fieldAt s at 32) (field-below s at 32)
 
 -- before the first token nothing is stored
 pub no-tokens : (s : List ℕ) (at : ℕ) (before : List ℕ) (base : ℕ) → TokensDone s at 0 before base before

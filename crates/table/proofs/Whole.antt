@@ -2,20 +2,20 @@
 -- stands, and else it is the network of the lists that were read. Assumes nothing.
 use Prim.Native.Nat.{ℕ, _≤_, _<_}
 use native.Mathlib.Omega.{arith}
-use mathlib.Core.Bool.{Bool, true, false, _&&_}
+use mathlib.Core.Bool.{Bool, true, false}
 use mathlib.Core.List.{List}
 use mathlib.Core.Path.{_≡_, refl, sym, _∙_, ap}
-use lib.Dec.{eqb, leb, ltb}
+use lib.Dec.{eqb}
 use lib.ListN.{length, getD}
-use borrow.Author.Tests.{ltb-true, leb-true, eq-eqb, ne-eqb}
-use Rattle.rules.specs.declared.Node.{Node}
+use borrow.Author.Tests.{eq-eqb, ne-eqb}
 use Rattle.rules.specs.declared.Refusal.{Refusal}
 use Rattle.rules.specs.declared.Checked.{Checked}
 use Rattle.rules.specs.Lists.{lowest}
 use Rattle.rules.specs.Network as rules
-use Rattle.rules.specs.Network.{nodeAmong, countsOk, nodeOk}
+use Rattle.rules.specs.Network.{nodeAmong, countsOk}
 use Rattle.rules.specs.Table.{read, _then_, unless, headerAt, endsAt, faultyNode, network}
-use Rattle.rules.proofs.ListLaws.{by-test, true-or-false, and-left, and-right, getD-tab}
+use Rattle.rules.proofs.Checks.{counts-within, node-fields}
+use Rattle.rules.proofs.ListLaws.{getD-tab}
 use Rattle.rules.proofs.Pieces.{header-read, nodes-read, nodes-count, channels-count}
 use Rattle.pieces.specs.declared.Header.{Header}
 use Rattle.table.specs.declared.Progress.{Progress}
@@ -27,10 +27,6 @@ use Rattle.pieces.specs.Says.{refusedBy, headerSays}
 use Rattle.table.specs.Reads.{NodesDone, NodesRead, ChannelsDone, ChannelsRead, faultyIn}
 use Rattle.table.proofs.Extents.{channels-extent}
 use Rattle.table.proofs.Ports.{faulty-lowest}
-
-kind-below : (node : Node) → nodeOk node ≡ true → node .kind < 12
-unfolding nodeOk
-kind-below node ok = by-test (ltb (node .kind) 12) (ltb-true (node .kind) 12) (λ e. true-or-false ok (simp (nodeOk, e)))
 
 -- the table of a refusal
 refused-table : (s : List ℕ) (why : Refusal) {r : Table} → network s ≡ refusedBy why → r ≡ refusedTable why → TableOf (network s) r
@@ -51,13 +47,10 @@ module _ (s : List ℕ) {nodes channels : ℕ} (header : headerAt s ≡ read (re
 
   -- a header that was read has counts within the limits
   pub nodes-within : nodes ≤ 32
-  unfolding countsOk
-  nodes-within =
-      leb-true nodes 32 (and-right (leb 1 nodes) (leb nodes 32) (and-left (leb 1 nodes && leb nodes 32) (leb channels 64) lawful-counts))
+  nodes-within = counts-within nodes channels lawful-counts .0
 
   pub channels-within : channels ≤ 64
-  unfolding countsOk
-  channels-within = leb-true channels 64 (and-right (leb 1 nodes && leb nodes 32) (leb channels 64) lawful-counts)
+  channels-within = counts-within nodes channels lawful-counts .1
 
   pub refused-by-nodes : (arrays : NodeArrays) {p : Progress} {why : Refusal} {r : Table} → NodesRead s nodes p arrays → p ≡ Progress.Refused why → r ≡ refusedTable why → TableOf (network s) r
   unfolding network
@@ -74,7 +67,7 @@ module _ (s : List ℕ) {nodes channels : ℕ} (header : headerAt s ≡ read (re
     kinds-known n below =
         let got = nodes-read s nodes .given (front .nodes) (front .reads) in
         let kind = nodeAmong (front .nodes) n .kind in
-        let known : kind < 12 = kind-below (nodeAmong (front .nodes) n) (got .each n (omega (arith, got .count)) .lawful) in
+        let known : kind < 12 = node-fields (nodeAmong (front .nodes) n) (got .each n (omega (arith, got .count)) .lawful) .kind in
         let place : n < 32 = omega (arith, nodes-within) in
         rw (front .laid, getD-tab 32 (λ i. nodeAmong (front .nodes) i .kind) n 0 place) known
 

@@ -24,16 +24,16 @@ module _ (net : Network) (arrivals : List ℕ) (orders : Orders) (t : ℕ) (st :
       (tab-ext (length (net .channels)) _ _ []
       (λ c below.
       ap (λ new. cond (isOut (channelOf net c)) (map (word c t) new) [])
-      (writes-wrote net arrivals t st orders obeys faultless before fair c below)))
+      (writes-wrote net arrivals t st orders before fair obeys faultless c below)))
 
   -- one instant, from a sound state
   instant-any-order : (room : ℕ) → instantInTurn net arrivals orders room t st ≡ instant net arrivals room t st
   unfolding instantInTurn judgedTurn instant judged
   instant-any-order room =
       let now = writeAll net arrivals t (orders .writes) st in
-      let same = reads-done net t st orders now obeys fair (writes-sized net arrivals t st orders obeys faultless before fair)
-      (writes-waiting net arrivals t st orders obeys faultless before fair) in
-      rw (words-any-order, same, writes-held net arrivals t st orders obeys faultless before fair)
+      let same = reads-done net t st orders now obeys fair (writes-sized net arrivals t st orders before)
+      (writes-waiting net arrivals t st orders before fair) in
+      rw (words-any-order, same, writes-held net arrivals t st orders before fair obeys faultless)
 
 -- the step to the next instant, from what the rules have reached
 onward-any-order : (net : Network) (arrivals : List ℕ) (orders : Orders) (room t : ℕ) → Obeys net → Faultless net arrivals → Fair net orders
@@ -58,7 +58,7 @@ adds-any-order : (net : Network) (arrivals : List ℕ) (orders : Orders) (room t
     → addsInTurn net arrivals orders t c so-far next ≡ adds net arrivals t c so-far next
 unfolding addsInTurn adds
 adds-any-order net arrivals orders room t c obeys faultless fair below (running words st) (running more after) e =
-    rw (writes-wrote net arrivals t st orders obeys faultless (sound net arrivals room t words st obeys e) fair c below)
+    rw (writes-wrote net arrivals t st orders (sound net arrivals room t words st obeys e) fair obeys faultless c below)
 adds-any-order net arrivals orders room t c obeys faultless fair below (running words st) (halted more number i channel) e = refl
 adds-any-order net arrivals orders room t c obeys faultless fair below (halted words number i channel) next e = refl
 

@@ -12,8 +12,7 @@ use Rattle.rules.proofs.ListLaws.{getD-tab, true-or-false}
 use Rattle.rules.proofs.Reach.{sound}
 use Rattle.theorems.specs.Demand.{Extends, Agree, Runs, on, Stopped, short}
 use Rattle.theorems.proofs.Inside.{inside}
-pub use Rattle.theorems.proofs.Part.{Part}
-use Rattle.theorems.proofs.Part.{SameInstant, same-instant}
+use Rattle.theorems.proofs.Part.{Part, SameInstant, same-instant}
 use Rattle.theorems.proofs.Stops.{Full, stopped-full}
 
 initial-part : (A B : Network) → Extends A B → Part A (initial A) (initial B)
@@ -41,7 +40,7 @@ went net arrivals room t runs = go (reached net arrivals room (suc t)) refl runs
   where
     go : (r : Reached) → reached net arrivals room (suc t) ≡ r → Runs r → Went net arrivals room t
     go (running words st) e now =
-        let came : Came net arrivals room t words st = reached-came net arrivals room t words st e in
+        let came : Came net arrivals room t st = reached-came net arrivals room t words st e in
         record { words = came .before; st = came .old; running = came .running; adds = λ c. rw (e, came .running) }
 
 module _ (A B : Network) (T : ℕ) (arrivalsA arrivalsB : List ℕ) (roomA roomB : ℕ)
@@ -54,7 +53,7 @@ module _ (A B : Network) (T : ℕ) (arrivalsA arrivalsB : List ℕ) (roomA roomB
       same-instant A B (inside A B obeysA obeysB extends) t arrivalsA arrivalsB (λ c below. agree .same c below t h) sa sb
       (sound A arrivalsA roomA t wa sa obeysA ea) (sound B arrivalsB roomB t wb sb obeysB eb) part
 
-  pub part-reached : (t : ℕ) → t ≤ suc T → (wa wb : List ℕ) (sa sb : State)
+  part-reached : (t : ℕ) → t ≤ suc T → (wa wb : List ℕ) (sa sb : State)
       → reached A arrivalsA roomA t ≡ running wa sa → reached B arrivalsB roomB t ≡ running wb sb
       → Part A sa sb
   unfolding reached
@@ -63,8 +62,8 @@ module _ (A B : Network) (T : ℕ) (arrivalsA arrivalsB : List ℕ) (roomA roomB
       let sameB : initial B ≡ sb = cc in
       rw (← sameA, ← sameB) (initial-part A B extends)
   part-reached (suc t) h wa wb sa sb ea eb =
-      let cameA : Came A arrivalsA roomA t wa sa = reached-came A arrivalsA roomA t wa sa ea in
-      let cameB : Came B arrivalsB roomB t wb sb = reached-came B arrivalsB roomB t wb sb eb in
+      let cameA : Came A arrivalsA roomA t sa = reached-came A arrivalsA roomA t wa sa ea in
+      let cameB : Came B arrivalsB roomB t sb = reached-came B arrivalsB roomB t wb sb eb in
       let now : t ≤ T = omega arith in
       let soon : t ≤ suc T = omega arith in
       let part = part-reached t soon (cameA .before) (cameB .before) (cameA .old) (cameB .old) (cameA .running) (cameB .running) in
@@ -99,7 +98,7 @@ module _ (A B : Network) (T : ℕ) (arrivalsA arrivalsB : List ℕ) (roomA roomB
       go : (r : Reached) → reached B arrivalsB roomB (suc t) ≡ r → Stopped r
       go (running wb sb) eb =
           let full : Full A arrivalsA roomA t c = stopped-full A arrivalsA roomA words t c end e in
-          let came : Came B arrivalsB roomB t wb sb = reached-came B arrivalsB roomB t wb sb eb in
+          let came : Came B arrivalsB roomB t sb = reached-came B arrivalsB roomB t wb sb eb in
           let instant = same-now t h (full .words) (came .before) (full .st) (came .old) (full .running) (came .running) in
           let farther : c < length (B .channels) = omega (arith, extends .moreChannels, full .below) in
           true-or-false (instant .overfull c (full .below) ∙ full .over) (came .goes .notOverfull c farther)

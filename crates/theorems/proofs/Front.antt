@@ -1,51 +1,24 @@
 -- Counts, tests of every number and the lowest number with a property, over a range and over a longer one of which it is the front.
 -- Assumes nothing.
-use Prim.Native.Nat.{ℕ, zero, suc, _≤_, _<_}
+use Prim.Native.Nat.{ℕ, _≤_, _<_}
 use native.Mathlib.Omega.{arith}
-use mathlib.Core.Bool.{Bool, true, false, cond}
-use mathlib.Core.Path.{_≡_, sym, _∙_, ap}
+use mathlib.Core.Bool.{Bool, true, false}
+use mathlib.Core.Path.{_≡_, sym, _∙_}
 use lib.Dec.{ltb}
 use borrow.Author.Tests.{ltb-true, ltb-false}
-use Rattle.rules.specs.Lists.{total, count, every, lowest}
-use Rattle.rules.proofs.ListLaws.{by-test, true-or-false, every-at, every-all, lowest-is, lowest-only, lowest-none, total-ext}
-use Rattle.rules.proofs.Agreeing.{count-ext}
+use Rattle.rules.specs.Lists.{count, every, lowest}
+use Rattle.rules.proofs.ListLaws.{by-test, true-or-false, every-at, every-all, lowest-is, lowest-only, lowest-none}
+use Rattle.rules.proofs.Agreeing.{count-ext, count-more}
 
--- a longer range counts no fewer
-count-longer : (n a : ℕ) (f : ℕ → Bool) → a ≤ n → count a f ≤ count n f
-unfolding count total
-count-longer zero a f h =
-    let same : a ≡ 0 = omega arith in
-    rw same (omega arith)
-count-longer (suc n) a f h =
-    by-test (ltb a (suc n))
-    (λ e.
-    let below : a ≤ n = omega (arith, ltb-true a (suc n) e) in
-    omega (arith, count-longer n a f below))
-    (λ e.
-    let same : a ≡ suc n = omega (arith, ltb-false a (suc n) e) in
-    rw same (omega arith))
-
--- and more, where it has one behind the front
-count-more : (n a c : ℕ) (f : ℕ → Bool) → a ≤ c → c < n → f c ≡ true → count a f < count n f
-unfolding count total
-count-more zero a c f h below found = absurd (omega arith)
-count-more (suc n) a c f h below found =
-    by-test (ltb c n) (λ e. omega (arith, count-more n a c f h (ltb-true c n e) found))
-    (λ e.
-    let same : c ≡ n = omega (arith, ltb-false c n e) in
-    let one : cond {A = ℕ} (f n) 1 0 ≡ 1 = rw (← same, found) in
-    let front : a ≤ n = omega arith in
-    omega (arith, count-longer n a f front))
-
-module _ (a b : ℕ) (f g : ℕ → Bool) (longer : a ≤ b) (same : (i : ℕ) → i < a → g i ≡ f i) where
+module _ (a b : ℕ) (f g : ℕ → Bool) (same : (i : ℕ) → i < a → g i ≡ f i) where
   -- where the counts are equal, no number behind the front has the property
   pub none-behind : count b g ≡ count a f → (c : ℕ) → a ≤ c → c < b → g c ≡ false
   none-behind counts c behind below =
       by-test (g c) (λ e. absurd (omega (arith, count-more b a c g behind below e, count-ext a g f same))) (λ e. e)
 
   -- where all behind the front pass, every number passes if the front does
-  pub every-front : ((i : ℕ) → a ≤ i → i < b → g i ≡ true) → every b g ≡ every a f
-  every-front behind =
+  pub every-front : a ≤ b → ((i : ℕ) → a ≤ i → i < b → g i ≡ true) → every b g ≡ every a f
+  every-front longer behind =
       by-test (every a f)
       (λ e.
       every-all b g
@@ -65,8 +38,8 @@ module _ (a b : ℕ) (f g : ℕ → Bool) (longer : a ≤ b) (same : (i : ℕ) �
       (λ not-all. not-all ∙ sym e))
 
   -- the lowest number is that of the front, where the front has one
-  pub lowest-front : lowest a f < a → lowest b g ≡ lowest a f
-  lowest-front found =
+  pub lowest-front : a ≤ b → lowest a f < a → lowest b g ≡ lowest a f
+  lowest-front longer found =
       let low = lowest-is a f in
       lowest-only
       (record {

@@ -1,23 +1,17 @@
 -- A network inside a larger one: its nodes read the same channels there, and its channels have the same ends. Assumes nothing.
 use Prim.Native.Nat.{ℕ, _≤_, _<_}
 use native.Mathlib.Omega.{arith}
-use mathlib.Core.Bool.{true, false, cond}
+use mathlib.Core.Bool.{false}
 use mathlib.Core.Path.{_≡_, refl, sym, _∙_}
-use lib.Dec.{eqb, ltb}
+use lib.Dec.{eqb}
 use lib.ListN.{length}
-use borrow.Author.Tests.{eqb-true, eq-eqb}
+use borrow.Author.Tests.{eq-eqb}
 use Rattle.rules.specs.Lists.{count}
-use Rattle.rules.specs.Kinds.{inputs}
-use Rattle.rules.specs.Network.{Network, Obeys, nodeOf, channelOf, serves, portsOk}
-use Rattle.rules.proofs.ListLaws.{and-both, by-test, true-or-false, every-at}
+use Rattle.rules.specs.Network.{Network, Obeys, channelOf, serves}
+use Rattle.rules.proofs.Checks.{served}
+use Rattle.rules.proofs.ListLaws.{and-both, by-test, true-or-false}
 use Rattle.theorems.specs.Demand.{Extends}
 use Rattle.theorems.proofs.Front.{none-behind}
-
--- port p of node n is served by as many channels as the node's kind says
-served : (net : Network) (n : ℕ) → portsOk net n ≡ true → (p : ℕ) → p < 4
-    → count (length (net .channels)) (serves net n p) ≡ cond (ltb p (inputs (nodeOf net n .kind))) 1 0
-unfolding portsOk
-served net n ok p below = eqb-true _ _ (every-at 4 _ ok p below)
 
 -- both networks obey their own rules, B extends A, and no channel that only B has is read by a node of A
 pub record Inside (A B : Network) : Type 0 where
@@ -43,7 +37,7 @@ inside A B obeysA obeysB extends =
           served B n (obeysB .ports n farther) p two ∙ rw (extends .sameNode n node) (sym (served A n (obeysA .ports n node) p two))
           in
           let none =
-          none-behind (length (A .channels)) (length (B .channels)) (serves A n p) (serves B n p) (extends .moreChannels)
+          none-behind (length (A .channels)) (length (B .channels)) (serves A n p) (serves B n p)
           (λ i h. rw (extends .sameChannel i h)) counts c new below
           in
           true-or-false (and-both e (eq-eqb p p refl)) none)

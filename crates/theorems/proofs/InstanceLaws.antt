@@ -2,13 +2,13 @@
 -- a network's own. Assumes nothing.
 use Prim.Native.Nat.{ℕ, _%_, _<_}
 use native.Mathlib.Omega.{arith}
-use mathlib.Core.Bool.{Bool, true, _||_}
+use mathlib.Core.Bool.{Bool, true}
 use mathlib.Core.List.{List}
 use mathlib.Core.Path.{_≡_}
-use lib.Dec.{eqb, ltb}
+use lib.Dec.{eqb}
 use lib.IntN.{ℤ}
-use lib.ListN.{getD, length, length-append, List·getD-append}
-use borrow.Author.Tests.{ltb-true, eqb-true}
+use lib.ListN.{length, length-append, List·getD-append}
+use borrow.Author.Tests.{eqb-true}
 use Rattle.rules.specs.declared.Node.{Node}
 use Rattle.rules.specs.declared.Channel.{Channel}
 use Rattle.rules.specs.Lists.{every}
@@ -18,25 +18,19 @@ use Rattle.theorems.specs.Turns.{times, Orders, Fair}
 use Rattle.theorems.specs.Demand.{Extends}
 use Rattle.theorems.specs.Instances.{more, byTurns}
 
--- each number below n stands in the list once, and every number of the list passes the test
+-- each number below n stands in the list once
 abbrev pub eachOnce : ℕ → List ℕ → Bool
 eachOnce n order = every n (λ i. eqb (times i order) 1)
 
-abbrev pub allOf : List ℕ → (ℕ → Bool) → Bool
-allOf order test = every (length order) (λ i. test (getD order i 0))
-
--- orders are fair if they pass five tests
+-- orders are fair if they pass three tests
 pub fair-if : (net : Network) (orders : Orders) → let n = length (net .nodes) in eachOnce n (orders .writes) ≡ true
-    → eqb (times outside (orders .writes)) 1 ≡ true → eachOnce n (orders .reads) ≡ true
-    → allOf (orders .writes) (λ m. ltb m n || eqb m outside) ≡ true → allOf (orders .reads) (λ m. ltb m n) ≡ true → Fair net orders
-fair-if net orders written out read writers readers =
+    → eqb (times outside (orders .writes)) 1 ≡ true → eachOnce n (orders .reads) ≡ true → Fair net orders
+fair-if net orders written out read =
     let n = length (net .nodes) in
     record {
       writesOnce = λ i h. eqb-true _ _ (every-at n (λ i. eqb (times i (orders .writes)) 1) written i h);
       outsideOnce = eqb-true _ _ out;
       readsOnce = λ i h. eqb-true _ _ (every-at n (λ i. eqb (times i (orders .reads)) 1) read i h);
-      writersOnly = every-at (length (orders .writes)) _ writers;
-      readersOnly = λ i h. ltb-true _ _ (every-at (length (orders .reads)) (λ i. ltb (getD (orders .reads) i 0) n) readers i h);
     }
 
 pub fair-by-turns : (net : Network) (even odd : Orders) → Fair net even → Fair net odd → (t : ℕ) → Fair net (byTurns even odd t)

@@ -39,20 +39,20 @@ pub fair-orders : Fair caseL rising × Fair caseL falling × ((t : ℕ) → Fair
     × Fair twoTogether rising × Fair oneEmpty alone × Fair fullQueue alone
 unfolding every times
 fair-orders =
-    let up = fair-if caseL rising refl refl refl refl refl in
-    let down = fair-if caseL falling refl refl refl refl refl in
-    let mixed = fair-if wider threeMixed refl refl refl refl refl in (
+    let up = fair-if caseL rising refl refl refl in
+    let down = fair-if caseL falling refl refl refl in
+    let mixed = fair-if wider threeMixed refl refl refl in (
       up,
       down,
       fair-by-turns caseL falling rising down up,
-      fair-if wider threeFalling refl refl refl refl refl,
+      fair-if wider threeFalling refl refl refl,
       mixed,
-      fair-by-turns wider threeRising threeMixed (fair-if wider threeRising refl refl refl refl refl) mixed,
-      fair-if filling threeFalling refl refl refl refl refl,
-      fair-if feeding threeRising refl refl refl refl refl,
-      fair-if twoTogether rising refl refl refl refl refl,
-      fair-if oneEmpty alone refl refl refl refl refl,
-      fair-if fullQueue alone refl refl refl refl refl,
+      fair-by-turns wider threeRising threeMixed (fair-if wider threeRising refl refl refl) mixed,
+      fair-if filling threeFalling refl refl refl,
+      fair-if feeding threeRising refl refl refl,
+      fair-if twoTogether rising refl refl refl,
+      fair-if oneEmpty alone refl refl refl,
+      fair-if fullQueue alone refl refl refl,
     )
 
 pub extensions : Extends caseL wider × Extends caseL filling × Extends caseL feeding

@@ -1,4 +1,3 @@
-pub mod Ends
 pub mod Front
 pub mod Locality
 pub mod Cells

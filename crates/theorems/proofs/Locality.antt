@@ -31,11 +31,12 @@ module _ (A B : Network) (n : ℕ) (heldA heldB : List (List ℤ)) (alike : Alik
   ready-same =
       every-front (length (A .channels)) (length (B .channels))
       (λ c. not (eqb (channelOf A c .reader) n) || (isRegister (channelOf A c) || not (isEmpty (heldIn heldA c))))
-      (λ c. not (eqb (channelOf B c .reader) n) || (isRegister (channelOf B c) || not (isEmpty (heldIn heldB c)))) (alike .more)
+      (λ c. not (eqb (channelOf B c .reader) n) || (isRegister (channelOf B c) || not (isEmpty (heldIn heldB c))))
       (λ c below.
       by-test (eqb (channelOf A c .reader) n)
       (λ e. rw (alike .channel c below, alike .held c below (eqb-true (channelOf A c .reader) n e)))
       (λ e. rw (alike .channel c below, e)))
+      (alike .more)
       (λ c new below. rw (alike .elsewhere c new below))
 
   input-same : (p : ℕ) → inputAt B heldB n p ≡ inputAt A heldA n p
@@ -50,11 +51,11 @@ module _ (A B : Network) (n : ℕ) (heldA heldB : List (List ℤ)) (alike : Alik
       (λ e.
       let found = ltb-true at a e in
       let reads = and-left (eqb (channelOf A at .reader) n) (eqb (channelOf A at .port) p) (lowest-is a (serves A n p) .found found) in
-      ap (λ (c : ℕ). oldest (heldIn heldB c)) (lowest-front a b (serves A n p) (serves B n p) (alike .more) same found)
+      ap (λ (c : ℕ). oldest (heldIn heldB c)) (lowest-front a b (serves A n p) (serves B n p) same (alike .more) found)
       ∙ ap oldest (alike .held at found (eqb-true (channelOf A at .reader) n reads)))
       (λ e.
       let unfound = ltb-false at a e in
-      let nowhere = lowest-nowhere a b (serves A n p) (serves B n p) (alike .more) same behind unfound in
+      let nowhere = lowest-nowhere a b (serves A n p) (serves B n p) same behind unfound in
       let pastB : length heldB ≤ lowest b (serves B n p) = omega (arith, alike .lengthB) in
       let pastA : length heldA ≤ at = omega (arith, alike .lengthA) in
       ap oldest (List·getD-eq-default heldB [] pastB) ∙ sym (ap oldest (List·getD-eq-default heldA [] pastA)))

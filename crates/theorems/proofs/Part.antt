@@ -1,21 +1,21 @@
 -- A's part of a state of B is a state of A, and an instant keeps it so: the same is written to A's channels, the same of A's nodes go
 -- ahead, and with the same results. Assumes nothing.
-use Prim.Native.Nat.{ℕ, _≤_, _<_}
+use Prim.Native.Nat.{ℕ, _<_}
 use native.Mathlib.Omega.{arith}
 use mathlib.Core.Bool.{true}
 use mathlib.Core.List.{List}
-use mathlib.Core.Option.{none}
 use mathlib.Core.Path.{_≡_, sym, _∙_}
 use lib.Dec.{eqb}
 use lib.IntN.{ℤ}
-use lib.ListN.{length, List·getD-eq-default}
+use lib.ListN.{length}
 use borrow.Author.Tests.{eqb-true, lt-ltb, le-ltb}
-use Rattle.rules.specs.Network.{Network, Obeys, channelOf, outside, endOk}
+use Rattle.rules.specs.Network.{Network, channelOf, outside, endOk}
 use Rattle.rules.specs.Instant.{State, waitingOf, heldIn, arriving, written, afterWrites, overfull, ready, goesAhead, resultOf, waitingAfter, heldAfter, afterReads}
+use Rattle.rules.proofs.Checks.{few-nodes, fields-of, end-node}
 use Rattle.rules.proofs.InstantLaws.{length-writes, writes-at, waiting-at, held-at}
 use Rattle.rules.proofs.ListLaws.{by-test}
 use Rattle.rules.proofs.Sound.{Sound}
-use Rattle.theorems.proofs.Ends.{few-nodes, node-end, end-node, writer-end, reader-end}
+use Rattle.theorems.proofs.Brought.{outside-waits}
 use Rattle.theorems.proofs.Inside.{Inside}
 use Rattle.theorems.proofs.Locality.{locality}
 
@@ -42,31 +42,35 @@ module _ (A B : Network) (inside : Inside A B) (heldA heldB : List (List ℤ))
         held = λ c below reads. held c below;
       })
 
-  -- a node of A goes ahead in both, and the outside in neither
-  ahead-same : (t n : ℕ) → endOk (length (A .nodes)) n ≡ true → goesAhead B heldB t n ≡ goesAhead A heldA t n
+  -- a node of A goes ahead in both or in neither
+  node-ahead : (t n : ℕ) → n < length (A .nodes) → goesAhead B heldB t n ≡ goesAhead A heldA t n
   unfolding goesAhead
-  ahead-same t n ok =
-      by-test (eqb n outside)
-      (λ e.
-      let noneA = le-ltb outside (length (A .nodes)) (few-nodes A (inside .inner)) in
-      let noneB = le-ltb outside (length (B .nodes)) (few-nodes B (inside .outer)) in
-      rw (eqb-true n outside e, noneA, noneB))
-      (λ e.
-      let node : n < length (A .nodes) = end-node (length (A .nodes)) n ok e in
+  node-ahead t n node =
       let farther : n < length (B .nodes) = omega (arith, inside .extends .moreNodes) in
       rw (lt-ltb n (length (A .nodes)) node, lt-ltb n (length (B .nodes)) farther)
-      (rw (inside .extends .sameNode n node, finds-same n node .0)))
+      (rw (inside .extends .sameNode n node, finds-same n node .0))
+
+  -- and the outside in neither
+  end-ahead : (t n : ℕ) → endOk (length (A .nodes)) n ≡ true → goesAhead B heldB t n ≡ goesAhead A heldA t n
+  unfolding goesAhead
+  end-ahead t n ok =
+      by-test (eqb n outside)
+      (λ e.
+      let noneA = le-ltb outside (length (A .nodes)) (omega (arith, few-nodes A (inside .inner))) in
+      let noneB = le-ltb outside (length (B .nodes)) (omega (arith, few-nodes B (inside .outer))) in
+      rw (eqb-true n outside e, noneA, noneB))
+      (λ e. node-ahead t n (end-node (length (A .nodes)) n ok e))
 
   waiting-same : (t : ℕ) (sa sb : State) → Part A sa sb → (n : ℕ) → n < length (A .nodes)
       → waitingAfter B heldB t sb n ≡ waitingAfter A heldA t sa n
   unfolding waitingAfter
   waiting-same t sa sb part n node =
-      rw (ahead-same t n (node-end (length (A .nodes)) n node), inside .extends .sameNode n node, finds-same n node .1, part .waiting n node)
+      rw (node-ahead t n node, inside .extends .sameNode n node, finds-same n node .1, part .waiting n node)
 
   held-same : (t c : ℕ) → c < length (A .channels) → heldAfter B heldB t c ≡ heldAfter A heldA t c
   unfolding heldAfter
   held-same t c below =
-      rw (inside .extends .sameChannel c below, ahead-same t (channelOf A c .reader) (reader-end A (inside .inner) c below), held c below)
+      rw (inside .extends .sameChannel c below, end-ahead t (channelOf A c .reader) (fields-of A (inside .inner) c below .reader), held c below)
 
   reads-part : (t : ℕ) (sa sb : State) → Part A sa sb → Part A (afterReads A heldA t sa) (afterReads B heldB t sb)
   reads-part t sa sb part =
@@ -78,12 +82,6 @@ module _ (A B : Network) (inside : Inside A B) (heldA heldB : List (List ℤ))
             let farther : c < length (B .channels) = omega (arith, inside .extends .moreChannels) in
             held-at B heldB t sb c farther ∙ held-same t c below ∙ sym (held-at A heldA t sa c below);
       }
-
--- the outside has nothing waiting
-outside-waits : (net : Network) → Obeys net → (t : ℕ) (st : State) → Sound net t st → waitingOf st outside ≡ none
-outside-waits net obeys t st sound =
-    let past : length (st .waiting) ≤ outside = omega (arith, few-nodes net obeys, sound .nodes) in
-    List·getD-eq-default (st .waiting) none past
 
 -- at instant t A's part of B is as A: what is written to its channels, which of them are overfull, and what comes after the reads
 pub record SameInstant (A B : Network) (t : ℕ) (arrivalsA arrivalsB : List ℕ) (sa sb : State) : Type 0 where
@@ -107,7 +105,7 @@ module _ (A B : Network) (inside : Inside A B) (t : ℕ) (arrivalsA arrivalsB : 
       let noneB = outside-waits B (inside .outer) t sb soundB in
       rw (channel, eqb-true writer outside e, noneA, noneB, same c below))
       (λ e.
-      let node = end-node (length (A .nodes)) writer (writer-end A (inside .inner) c below) e in
+      let node = end-node (length (A .nodes)) writer (fields-of A (inside .inner) c below .writer) e in
       rw (channel, part .waiting writer node, same c below))
 
   writes-same : (c : ℕ) → c < length (A .channels) → heldIn (afterWrites B arrivalsB t sb) c ≡ heldIn (afterWrites A arrivalsA t sa) c

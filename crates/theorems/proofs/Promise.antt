@@ -39,9 +39,9 @@ pub record Promised (A B : Network) (T : ℕ) (arrivalsA arrivalsB : List ℕ) (
 -- reached and written by an earlier moment does not depend on it. So runs to any horizons of at least T are covered, and `stopsToo`
 -- holds at whatever moment the stop is seen.
 -- Where the text could be read in two ways, the weaker hypothesis and the stronger conclusion are taken: the orders may differ from instant
--- to instant, whatever the choice hangs on, and for writing and reading; the outside takes its turn anywhere among the writers; the rooms
--- for output words are any, so that either run may stop by 12; the words written are equal with their instants; and they are those of the
--- rules at every moment, stopped or not, on all of B's channels too.
+-- to instant, whatever the choice hangs on, and for writing and reading; the outside takes its turn anywhere among the writers; numbers
+-- that are nobody's may stand in the orders; the rooms for output words are any, so that either run may stop by 12; the words written are
+-- equal with their instants; and they are those of the rules at every moment, stopped or not, on all of B's channels too.
 pub demand :
     (tableA tableB : List ℕ) (A B : Network) (T : ℕ) (arrivalsA arrivalsB : List ℕ) (ordersA ordersB : ℕ → Orders) (roomA roomB : ℕ)
     → network tableA ≡ read A

@@ -12,17 +12,16 @@ use lib.ListN.{length, getD, drop}
 use borrow.Author.Tests.{eqb-true, eq-eqb, le-ltb}
 use Rattle.rules.specs.Network.{Network, Obeys, nodeOf, channelOf, isRegister, outside}
 use Rattle.rules.specs.Instant.{State, waitingOf, heldIn, isDue, ready, resultOf, waitFor, goesAhead, waitingAfter, heldAfter, afterReads}
+use Rattle.rules.proofs.Checks.{few-nodes, fields-of, end-node}
 use Rattle.rules.proofs.ListLaws.{by-test, length-tab, getD-tab, tab-getD}
 use Rattle.theorems.specs.Turns.{Turn, reading, inTurn, readAll, Orders, Fair}
-use Rattle.theorems.proofs.Cells.{times-none, Sized, Sizes, Cell, sized-after, cell-kept, cell-updated}
-use Rattle.theorems.proofs.Ends.{few-nodes, end-node, reader-end}
+use Rattle.theorems.proofs.Cells.{Sized, Sizes, Cell, unchanged, sized-after, cell-updated}
 use Rattle.theorems.proofs.Locality.{locality}
 
--- a channel whose reader is no node gives nothing
-unread : (net : Network) (held : List (List ℤ)) (t c : ℕ) → length (net .nodes) ≤ channelOf net c .reader
-    → heldAfter net held t c ≡ heldIn held c
-unfolding heldAfter goesAhead
-unread net held t c past = simp (le-ltb (channelOf net c .reader) (length (net .nodes)) past, and-false)
+-- who is no node does not go ahead
+nobody-ahead : (net : Network) (held : List (List ℤ)) (t n : ℕ) → length (net .nodes) ≤ n → goesAhead net held t n ≡ false
+unfolding goesAhead
+nobody-ahead net held t n past = rw (le-ltb n (length (net .nodes)) past)
 
 -- the entries after one reader's turn
 module _ (net : Network) (t : ℕ) where
@@ -88,6 +87,16 @@ module _ (net : Network) (t : ℕ) where
         same = λ now n sized other. rw (finds-same now n r sized other .0, held-kept now n c below other);
       }
 
+  -- no turn takes from a channel whose reader is no node
+  unread : (now : Turn) (n c : ℕ) → c < length (net .channels) → length (net .nodes) ≤ channelOf net c .reader
+      → heldIn (reading net t now n .held) c ≡ heldIn (now .held) c
+  unread now n c below past =
+      by-test (eqb (channelOf net c .reader) n)
+      (λ e.
+      let nobody : length (net .nodes) ≤ n = omega (arith, eqb-true (channelOf net c .reader) n e) in
+      reading-held now n c below ∙ simp (nobody-ahead net (now .held) t n nobody, and-false))
+      (λ e. held-kept now n c below e)
+
 -- the reads of an instant, in a fair order, from what the writes left
 module _ (net : Network) (t : ℕ) (st : State) (orders : Orders) (now : Turn) (obeys : Obeys net) (fair : Fair net orders) (sized : Sized net now)
     (left : (n : ℕ) → n < length (net .nodes) → getD (now .waiting) n none ≡ cond (isDue (waitingOf st n) t) none (waitingOf st n)) where
@@ -98,24 +107,24 @@ module _ (net : Network) (t : ℕ) (st : State) (orders : Orders) (now : Turn) (
       → getD (inTurn (reading net t) now (orders .reads) .waiting) n none ≡ waitingAfter net (now .held) t st n
   unfolding waitingAfter
   reads-waiting n below =
-      cell-updated net (reading net t) (reading-sizes net t) (waiting-cell net t n below) (orders .reads) now sized (fair .readsOnce n below)
+      cell-updated (waiting-cell net t n below) (reading-sizes net t) (orders .reads) now sized (fair .readsOnce n below)
       ∙ rw (left n below)
 
   -- a channel that the outside reads stays as it is, here and by the rules; any other has its reader's turn
   reads-held : (c : ℕ) → c < length (net .channels)
       → heldIn (inTurn (reading net t) now (orders .reads) .held) c ≡ heldAfter net (now .held) t c
+  unfolding heldAfter
   reads-held c below =
       let r = channelOf net c .reader in
       let nodes = length (net .nodes) in
-      let cell = held-cell net t c below in
       by-test (eqb r outside)
       (λ e.
       let past : nodes ≤ r = omega (arith, few-nodes net obeys, eqb-true r outside e) in
-      cell-kept net (reading net t) (reading-sizes net t) cell (orders .reads) now (times-none nodes r (orders .reads) past (fair .readersOnly))
-      ∙ sym (unread net (now .held) t c past))
+      unchanged (reading net t) (λ late. heldIn (late .held) c) (λ late n. unread net t late n c below past) (orders .reads) now
+      ∙ sym (simp (nobody-ahead net (now .held) t r past, and-false)))
       (λ e.
-      cell-updated net (reading net t) (reading-sizes net t) cell (orders .reads) now sized
-      (fair .readsOnce r (end-node nodes r (reader-end net obeys c below) e)))
+      cell-updated (held-cell net t c below) (reading-sizes net t) (orders .reads) now sized
+      (fair .readsOnce r (end-node nodes r (fields-of net obeys c below .reader) e)))
 
   pub reads-done : readAll net t (orders .reads) now ≡ afterReads net (now .held) t st
   unfolding readAll afterReads

@@ -5,13 +5,10 @@ use native.Mathlib.Omega.{arith}
 use mathlib.Core.Bool.{true}
 use mathlib.Core.List.{List}
 use mathlib.Core.Path.{_≡_, refl}
-use lib.Dec.{ltb}
 use lib.ListN.{length}
-use borrow.Author.Tests.{ltb-true}
-use Rattle.rules.specs.Lists.{lowest}
 use Rattle.rules.specs.Network.{Network}
-use Rattle.rules.specs.Instant.{State, afterWrites, overfull, outWords, afterReads, Step, stops, goes, judged, instant, Reached, running, halted, stepped, onward, reached}
-use Rattle.rules.proofs.ListLaws.{by-test, lowest-is}
+use Rattle.rules.specs.Instant.{State, afterWrites, overfull, Step, stops, goes, instant, Reached, running, halted, stepped, onward, reached}
+use Rattle.rules.proofs.InstantLaws.{Comes, instant-comes}
 
 -- channel c is overfull at instant t, to which a run has come
 pub record Full (net : Network) (arrivals : List ℕ) (room t c : ℕ) : Type 0 where
@@ -22,28 +19,15 @@ pub record Full (net : Network) (arrivals : List ℕ) (room t c : ℕ) : Type 0 
   pub over : overfull net (afterWrites net arrivals t st) c ≡ true
 
 -- an instant that stops with 11 has found the channel overfull
-instant-full : (net : Network) (arrivals : List ℕ) (room t : ℕ) (st : State) (c : ℕ) → instant net arrivals room t st ≡ stops 11 c
+comes-full : {net : Network} {arrivals : List ℕ} {room t : ℕ} {st : State} {step : Step} (c : ℕ) → Comes net arrivals room t st step → step ≡ stops 11 c
     → (c < length (net .channels)) × (overfull net (afterWrites net arrivals t st) c ≡ true)
-unfolding instant judged
-instant-full net arrivals room t st c e =
-    let held = afterWrites net arrivals t st in
-    let full = lowest (length (net .channels)) (overfull net held) in
-    by-test (ltb full (length (net .channels)))
-    (λ over.
-    let same : stops 11 full ≡ stops 11 c = rw over at e in
-    let its : full ≡ c = cc in
-    let below = ltb-true full (length (net .channels)) over in
-    rw (← its) (below, lowest-is (length (net .channels)) (overfull net held) .found below))
-    (λ under.
-    by-test (ltb room (length (outWords net arrivals t st)))
-    (λ over.
-    let clash : stops 12 0 ≡ stops 11 c = rw (under, over) at e in
+comes-full c (Comes.full d below over) e =
+    let its : d ≡ c = cc in
+    rw (← its) (below, over)
+comes-full c Comes.crowded e =
     let z : _≡_ {A = ℕ} 12 11 = cc in
-    absurd (omega arith))
-    (λ has-room.
-    let clash : goes (outWords net arrivals t st) (afterReads net held t st) ≡ stops 11 c = rw (under, has-room) at e in
-    let z : _≡_ {A = ℕ} 0 1 = cc in
-    absurd (omega arith)))
+    absurd (omega arith)
+comes-full c (Comes.on under fits) e = let z : _≡_ {A = ℕ} 0 1 = cc in absurd (omega arith)
 
 module _ (net : Network) (arrivals : List ℕ) (room : ℕ) (words : List ℕ) (t c : ℕ) where
   -- a stop is at the instant that stops
@@ -52,7 +36,7 @@ module _ (net : Network) (arrivals : List ℕ) (room : ℕ) (words : List ℕ) (
   step-full i before old r (stops n at) said e =
       let same : i ≡ t = cc in
       let as-said : instant net arrivals (room - length before) i old ≡ stops 11 c = cc in
-      let found = instant-full net arrivals (room - length before) i old c as-said in
+      let found = comes-full c (instant-comes net arrivals (room - length before) i old) as-said in
       rw (← same) (record { words = before; st = old; running = r; below = found .0; over = found .1 })
   step-full i before old r (goes more after) said e = let z : _≡_ {A = ℕ} 0 1 = cc in absurd (omega arith)
 

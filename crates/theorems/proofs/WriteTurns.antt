@@ -12,12 +12,12 @@ use borrow.Author.Tests.{eqb-true, eq-eqb}
 use Rattle.rules.specs.Network.{Network, Obeys, endOk, channelOf, outside}
 use Rattle.rules.specs.Instant.{State, waitingOf, heldIn, isDue, keeping, written, afterWrites}
 use Rattle.rules.proofs.Arrivals.{Faultless}
+use Rattle.rules.proofs.Checks.{fields-of, end-node}
 use Rattle.rules.proofs.ListLaws.{by-test, length-tab, getD-tab, tab-getD}
 use Rattle.rules.proofs.Sound.{Sound}
 use Rattle.theorems.specs.Turns.{times, Turn, wroteTo, begin, brings, write, writeAll, Orders, Fair}
 use Rattle.theorems.proofs.Brought.{brings-written}
 use Rattle.theorems.proofs.Cells.{Sized, Sizes, Cell, sized-after, cell-updated}
-use Rattle.theorems.proofs.Ends.{end-node, writer-end}
 
 -- the entries after one writer's turn
 module _ (net : Network) (arrivals : List ℕ) (t : ℕ) where
@@ -80,9 +80,8 @@ writer-once : (net : Network) (orders : Orders) → Fair net orders → (w : ℕ
 writer-once net orders fair w ok =
     by-test (eqb w outside) (λ e. rw (eqb-true w outside e) (fair .outsideOnce)) (λ e. fair .writesOnce w (end-node (length (net .nodes)) w ok e))
 
--- the writes of an instant, from a sound state, in a fair order
-module _ (net : Network) (arrivals : List ℕ) (t : ℕ) (st : State) (orders : Orders) (obeys : Obeys net)
-    (faultless : Faultless net arrivals) (before : Sound net t st) (fair : Fair net orders) where
+-- the writes of an instant, from a sound state
+module _ (net : Network) (arrivals : List ℕ) (t : ℕ) (st : State) (orders : Orders) (before : Sound net t st) where
   begin-sized : Sized net (begin net st)
   unfolding begin
   begin-sized = record { nodes = before .nodes; channels = before .channels }
@@ -91,36 +90,37 @@ module _ (net : Network) (arrivals : List ℕ) (t : ℕ) (st : State) (orders : 
   unfolding writeAll
   writes-sized = sized-after net (write net arrivals t) (write-sizes net arrivals t) (orders .writes) (begin net st) begin-sized
 
-  channel-written : (c : ℕ) → c < length (net .channels) → (get : Turn → List ℤ) (join : List ℤ → List ℤ → List ℤ)
-      → ((now : Turn) (n : ℕ)
-      → get (write net arrivals t now n) ≡ cond (eqb (channelOf net c .writer) n) (join (get now) (brings net arrivals t now n c)) (get now))
-      → get (writeAll net arrivals t (orders .writes) st) ≡ join (get (begin net st)) (written net arrivals t st c)
-  unfolding writeAll
-  channel-written c below get join entry =
-      let w = channelOf net c .writer in
-      let ok = writer-end net obeys c below in
-      cell-updated net (write net arrivals t) (write-sizes net arrivals t) (writer-cell net arrivals t w c ok get join entry) (orders .writes)
-      (begin net st) begin-sized (writer-once net orders fair w ok)
-      ∙ ap (join (get (begin net st))) (brings-written net arrivals t st obeys faultless before c)
+  -- in a fair order
+  module _ (fair : Fair net orders) where
+    pub writes-waiting : (n : ℕ) → n < length (net .nodes)
+        → getD (writeAll net arrivals t (orders .writes) st .waiting) n none ≡ cond (isDue (waitingOf st n) t) none (waitingOf st n)
+    unfolding writeAll begin
+    writes-waiting n below =
+        cell-updated (waiting-cell net arrivals t n below) (write-sizes net arrivals t) (orders .writes) (begin net st) begin-sized (fair .writesOnce n below)
 
-  pub writes-held : writeAll net arrivals t (orders .writes) st .held ≡ afterWrites net arrivals t st
-  unfolding afterWrites begin
-  writes-held =
-      sym
-      (tab-getD (writeAll net arrivals t (orders .writes) st .held) (length (net .channels)) _ [] (writes-sized .channels)
-      (λ c below.
-      sym (channel-written c below (λ now. heldIn (now .held) c) (keeping (channelOf net c)) (λ now n. write-held net arrivals t now n c below))))
+    module _ (obeys : Obeys net) (faultless : Faultless net arrivals) where
+      channel-written : (c : ℕ) → c < length (net .channels) → (get : Turn → List ℤ) (join : List ℤ → List ℤ → List ℤ)
+          → ((now : Turn) (n : ℕ)
+          → get (write net arrivals t now n) ≡ cond (eqb (channelOf net c .writer) n) (join (get now) (brings net arrivals t now n c)) (get now))
+          → get (writeAll net arrivals t (orders .writes) st) ≡ join (get (begin net st)) (written net arrivals t st c)
+      unfolding writeAll
+      channel-written c below get join entry =
+          let w = channelOf net c .writer in
+          let ok = fields-of net obeys c below .writer in
+          cell-updated (writer-cell net arrivals t w c ok get join entry) (write-sizes net arrivals t) (orders .writes) (begin net st) begin-sized (writer-once net orders fair w ok)
+          ∙ ap (join (get (begin net st))) (brings-written net arrivals t st obeys faultless before c)
 
-  pub writes-wrote : (c : ℕ) → c < length (net .channels)
-      → wroteTo (writeAll net arrivals t (orders .writes) st) c ≡ written net arrivals t st c
-  unfolding begin
-  writes-wrote c below =
-      channel-written c below (λ now. wroteTo now c) (λ old new. old ++ new) (λ now n. write-wrote net arrivals t now n c below)
-      ∙ rw (getD-tab {A = List ℤ} (length (net .channels)) (λ d. []) c [] below)
+      pub writes-held : writeAll net arrivals t (orders .writes) st .held ≡ afterWrites net arrivals t st
+      unfolding afterWrites begin
+      writes-held =
+          sym
+          (tab-getD (writeAll net arrivals t (orders .writes) st .held) (length (net .channels)) _ [] (writes-sized .channels)
+          (λ c below.
+          sym (channel-written c below (λ now. heldIn (now .held) c) (keeping (channelOf net c)) (λ now n. write-held net arrivals t now n c below))))
 
-  pub writes-waiting : (n : ℕ) → n < length (net .nodes)
-      → getD (writeAll net arrivals t (orders .writes) st .waiting) n none ≡ cond (isDue (waitingOf st n) t) none (waitingOf st n)
-  unfolding writeAll begin
-  writes-waiting n below =
-      cell-updated net (write net arrivals t) (write-sizes net arrivals t) (waiting-cell net arrivals t n below) (orders .writes)
-      (begin net st) begin-sized (fair .writesOnce n below)
+      pub writes-wrote : (c : ℕ) → c < length (net .channels)
+          → wroteTo (writeAll net arrivals t (orders .writes) st) c ≡ written net arrivals t st c
+      unfolding begin
+      writes-wrote c below =
+          channel-written c below (λ now. wroteTo now c) (λ old new. old ++ new) (λ now n. write-wrote net arrivals t now n c below)
+          ∙ rw (getD-tab {A = List ℤ} (length (net .channels)) (λ d. []) c [] below)

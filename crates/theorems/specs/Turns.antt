@@ -1,7 +1,7 @@
 -- The second semantics: in each instant the nodes go one after another, each working on the channels as the one before left them; all
 -- writes are kept before all reads. It shares the rules' records, kinds and ports, and not the rules' instant. Assumes nothing.
 use Prim.Native.Nat.{ℕ, zero, suc, _+_, _-_, _<_}
-use mathlib.Core.Bool.{true, cond, not, _&&_, _||_}
+use mathlib.Core.Bool.{cond, not, _&&_}
 use mathlib.Core.List.{List, [], _∷_, _++_, map}
 use mathlib.Core.Option.{Option, none}
 use mathlib.Core.Path.{_≡_}
@@ -22,13 +22,12 @@ pub record Orders : Type 0 where
   pub writes : List ℕ
   pub reads : List ℕ
 
--- every node stands exactly once in each order, the outside exactly once among the writers, and nobody else stands there
+-- every node stands exactly once in each order, and the outside exactly once among the writers; a number that is nobody's may stand there
+-- too, and its turn does nothing
 pub record Fair (net : Network) (orders : Orders) : Type 0 where
   pub writesOnce : (n : ℕ) → n < length (net .nodes) → times n (orders .writes) ≡ 1
   pub outsideOnce : times outside (orders .writes) ≡ 1
   pub readsOnce : (n : ℕ) → n < length (net .nodes) → times n (orders .reads) ≡ 1
-  pub writersOnly : (i : ℕ) → i < length (orders .writes) → (ltb (getD (orders .writes) i 0) (length (net .nodes)) || eqb (getD (orders .writes) i 0) outside) ≡ true
-  pub readersOnly : (i : ℕ) → i < length (orders .reads) → getD (orders .reads) i 0 < length (net .nodes)
 
 -- the state within an instant, and what was written to each channel in it so far
 pub record Turn : Type 0 where

@@ -2,7 +2,7 @@
 -- bits are. Assumes nothing.
 use borrow.Author.Tests.{ne-eqb}
 use Rattle.rules.specs.Kinds.{constantOk}
-use Rattle.pieces.proofs.Tests.{zero-by-bits}
+use Rattle.rules.proofs.KindLaws.{zero-by-bits}
 use Rattle.pieces.proofs.constant_ok.Statement.{statement}
 use Rattle.pieces.proofs.constant_ok.Tie as tie
 

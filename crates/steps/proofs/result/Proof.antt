@@ -8,7 +8,8 @@ use mir.Syntax.{w32}
 use mir.ValLaws.{toZ-ofZ}
 use borrow.Author.Needs.{needs, sfits-of}
 use Rattle.rules.specs.Kinds.{signed, pattern, result}
-use Rattle.steps.proofs.Results.{read-back, zero-by-bits, choice-of-not, sum-by-bits, difference-by-bits, ones-by-bits, first-beam-by-bits, past-the-others}
+use Rattle.rules.proofs.KindLaws.{zero-of-bits}
+use Rattle.steps.proofs.Results.{read-back, choice-of-not, sum-by-bits, difference-by-bits, ones-by-bits, first-beam-by-bits, past-the-others}
 use Rattle.steps.proofs.result.Statement.{statement}
 use Rattle.steps.proofs.result.Tie as tie
 
@@ -94,7 +95,7 @@ returns-9 c = rw (c .before .match .keys9) (ap some (c .chosen .ensures))
 
 returns-10 : tie.Need-returns-10
 unfolding result
-returns-10 c = rw (c .match .keys10, zero-by-bits (c .before .args .a) (c .before .fits .a .fits)) (choice-of-not (eqb (c .before .args .a) 0) _ _)
+returns-10 c = rw (c .match .keys10, zero-of-bits (c .before .args .a) (c .before .fits .a .fits)) (choice-of-not (eqb (c .before .args .a) 0) _ _)
 
 returns-11 : tie.Need-returns-11
 unfolding result

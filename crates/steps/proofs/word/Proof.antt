@@ -1,7 +1,7 @@
 -- `steps::word` meets its contract: the three fields do not reach one another, so the sum fits, and a token's bits are those given. Assumes nothing.
 use borrow.Author.Needs.{needs}
 use native.Mathlib.Omega.{arith}
-use Rattle.steps.proofs.Results.{pattern-signed}
+use Rattle.rules.proofs.KindLaws.{pattern-signed}
 use Rattle.steps.proofs.word.Statement.{statement}
 use Rattle.steps.proofs.word.Tie as tie
 
