@@ -92,12 +92,12 @@ module _ (s : List ℕ) {r : Table} (got : TableOf (network s) r) where
           absurd (omega (arith, in-range number (network-numbered s .from number place e)))
       by-reading (read net) e = record { lawful = record { net = net; obeys = accepted s net e; from = got .network ∙ ap laid e }; reads = e }
 
-  -- a run of the table is refused as the table is, and else is the run of the network
-  module _ (horizon : ℕ) (arrivals list : List ℕ) where
-    pub refused-by-table : {why : Refusal} → r .answer ≡ Checked.Refused why → RunOf (run s horizon arrivals (length list)) list list (Ran.Refused why)
-    unfolding run
-    refused-by-table {why} is = rw (table-refused is) (refused-run why list)
+  -- a run of the table is refused as the table is
+  pub refused-by-table : (horizon : ℕ) (arrivals list : List ℕ) {why : Refusal} → r .answer ≡ Checked.Refused why → RunOf (run s horizon arrivals (length list)) list list (Ran.Refused why)
+  unfolding run
+  refused-by-table horizon arrivals list {why} is = rw (table-refused is) (refused-run why list)
 
-    pub run-as-read : (taken : Taken s r) {after : List ℕ} {ran : Ran} → RunOf (runRead (taken .lawful .net) horizon arrivals (length list)) list after ran → RunOf (run s horizon arrivals (length list)) list after ran
-    unfolding run runRead
-    run-as-read taken ran = rw (taken .reads) ran
+-- and else is the run of the network
+pub run-as-read : (s : List ℕ) {r : Table} (taken : Taken s r) (horizon : ℕ) (arrivals list : List ℕ) {after : List ℕ} {ran : Ran} → RunOf (runRead (taken .lawful .net) horizon arrivals (length list)) list after ran → RunOf (run s horizon arrivals (length list)) list after ran
+unfolding run runRead
+run-as-read s taken horizon arrivals list ran = rw (taken .reads) ran

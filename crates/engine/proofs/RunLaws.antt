@@ -79,38 +79,12 @@ progress-start {net} before runs =
     }
 
 module _ {net : Network} {m : Machine} {horizon : ℕ} {arrivals before list : List ℕ} {x : Cells} {p : Pendings} {t from count : ℕ}
-    (runs : Runs net m horizon arrivals) (so-far : Progress net m horizon arrivals before list x p t from count) where
+    (so-far : Progress net m horizon arrivals before list x p t from count) where
   pub same-room : length list ≡ length before
   same-room = rw (so-far .listed, length-append, length-drop) (omega (arith, so-far .many, so-far .fits))
 
   here : reached net arrivals (length before) t ≡ running (so-far .words) (so-far .st)
   here = so-far .still t (so-far .since) (omega arith)
-
-  pub before-instant : t ≤ horizon → Before net arrivals (shapeOf m) (wiresOf m) (waysOf m) from t (so-far .st) x p
-  before-instant now =
-      record {
-        obeys = runs .obeys;
-        faultless = runs .faultless;
-        early = omega (arith, runs .early);
-        sound = sound net arrivals (length before) t (so-far .words) (so-far .st) (runs .obeys) here;
-        wired = runs .starts .wired;
-        represents = so-far .represents;
-        cursor = so-far .cursor;
-      }
-
-  -- the instant can be done, with room for its words
-  pub instant-can : t ≤ horizon → (room : List ℕ) → length room ≡ 64
-      → Rings (shapeOf m) x × Able (m .nodes) (m .channels) (wiresOf m) (waysOf m) × Sized p × OnChannels (m .channels) arrivals × (from ≤ length arrivals) × (t < 2 ^ 24) × (count ≤ length list) × (length room ≡ 64)
-  instant-can now room full = (
-    so-far .represents .rings,
-    runs .starts .able,
-    so-far .sized,
-    rw (runs .starts .channels) (faultless-on net arrivals (runs .faultless)),
-    so-far .cursor .within,
-    before-instant now .early,
-    omega (arith, same-room, so-far .fits),
-    full,
-  )
 
   -- how far the run comes by the instant
   pub then-reached : (step : Step) → instant net arrivals (length list - count) t (so-far .st) ≡ step
@@ -123,3 +97,30 @@ module _ {net : Network} {m : Machine} {horizon : ℕ} {arrivals before list : L
   run-ends past =
       let at : reached net arrivals (length before) (suc horizon) ≡ running (so-far .words) (so-far .st) = so-far .still (suc horizon) (so-far .ends) past in
       rw at (record { answer = rw (so-far .many); list = rw (← so-far .many) (so-far .listed) })
+
+  module _ (runs : Runs net m horizon arrivals) where
+    pub before-instant : t ≤ horizon → Before net arrivals (shapeOf m) (wiresOf m) (waysOf m) from t (so-far .st) x p
+    before-instant now =
+        record {
+          obeys = runs .obeys;
+          faultless = runs .faultless;
+          early = omega (arith, runs .early);
+          sound = sound net arrivals (length before) t (so-far .words) (so-far .st) (runs .obeys) here;
+          wired = runs .starts .wired;
+          represents = so-far .represents;
+          cursor = so-far .cursor;
+        }
+
+    -- the instant can be done, with room for its words
+    pub instant-can : t ≤ horizon → (room : List ℕ) → length room ≡ 64
+        → Rings (shapeOf m) x × Able (m .nodes) (m .channels) (wiresOf m) (waysOf m) × Sized p × OnChannels (m .channels) arrivals × (from ≤ length arrivals) × (t < 2 ^ 24) × (count ≤ length list) × (length room ≡ 64)
+    instant-can now room full = (
+      so-far .represents .rings,
+      runs .starts .able,
+      so-far .sized,
+      rw (runs .starts .channels) (faultless-on net arrivals (runs .faultless)),
+      so-far .cursor .within,
+      before-instant now .early,
+      omega (arith, same-room, so-far .fits),
+      full,
+    )

@@ -53,7 +53,7 @@ module _ {net : Network} {m : Machine} {horizon : ℕ} {arrivals before list : L
       let whole : suc t + (horizon - t) ≡ suc horizon = omega arith in
       let at : reached net arrivals (length before) (suc horizon) ≡ halted (so-far .words) number t channel =
       rw whole at
-      (halted-stays net arrivals (length before) (suc t) (so-far .words) number t channel (then-reached runs so-far (stops number channel) (said .0)) (horizon - t)) in
+      (halted-stays net arrivals (length before) (suc t) (so-far .words) number t channel (then-reached so-far (stops number channel) (said .0)) (horizon - t)) in
       rw (at, said .1) (record { answer = says ∙ rw (so-far .many); list = rw (← so-far .many) (so-far .listed) })
 
   -- an instant goes on, and nothing happens up to the next one at which something may
@@ -62,12 +62,12 @@ module _ {net : Network} {m : Machine} {horizon : ℕ} {arrivals before list : L
       → (suc t ≤ soon) × Progress net m horizon arrivals before after y q soon next (count + more)
   goes-on {after} {more} {next} {soon} {y} {q} now on =
       let words = so-far .words ++ on .words in
-      let then : reached net arrivals (length before) (suc t) ≡ running words (on .state) = then-reached runs so-far (goes (on .words) (on .state)) (on .goesOn) in
+      let then : reached net arrivals (length before) (suc t) ≡ running words (on .state) = then-reached so-far (goes (on .words) (on .state)) (on .goesOn) in
       let room : length (on .words) ≤ length list - count =
       instant-goes net arrivals (length list - count) t (so-far .st) (on .words) (on .state) (on .goesOn) .fits in
       let skipped : Skipped net arrivals (shapeOf m) next (suc t) soon (on .state) y q =
       rw (on .earliest)
-      (skips net arrivals (shapeOf m) next (suc t) (on .state) y q (runs .obeys) (runs .faultless) (omega (arith, runs .early))
+      (skips net arrivals (shapeOf m) next (suc t) (on .state) y q (runs .faultless) (omega (arith, runs .early))
       (sound net arrivals (length before) (suc t) words (on .state) (runs .obeys) then) (on .represents) (on .cursor)) in (
         skipped .later,
         record {
@@ -85,7 +85,7 @@ module _ {net : Network} {m : Machine} {horizon : ℕ} {arrivals before list : L
           cursor = skipped .cursor;
           sized = on .sized;
           many = rw length-append (omega (arith, so-far .many, on .many));
-          fits = omega (arith, same-room runs so-far, so-far .fits, on .many);
+          fits = omega (arith, same-room so-far, so-far .fits, on .many);
           listed =
               rw (← on .many)
               (words-behind (so-far .words) (on .words) before list after count (so-far .many) (so-far .listed) (rw (← on .many) at (on .list)));
@@ -97,7 +97,7 @@ module _ {net : Network} {m : Machine} {horizon : ℕ} {arrivals before list : L
       (told : (st : State) → m .nodes ≡ length (net .nodes) → Before net arrivals (shapeOf m) (wiresOf m) (waysOf m) from t st x p
       → StepSays net arrivals (shapeOf m) t st list count step after y q) where
     said : (is : Step) → step ≡ is → StepSays net arrivals (shapeOf m) t (so-far .st) list count is after y q
-    said is e = rw e at (told (so-far .st) (runs .starts .nodes) (before-instant runs so-far now))
+    said is e = rw e at (told (so-far .st) (runs .starts .nodes) (before-instant so-far runs now))
 
     pub moves-on : {more next soon : ℕ} → step ≡ Step.On more next soon → suc t ≤ soon
     moves-on {more} {next} {soon} e = goes-on now (said (Step.On more next soon) e) .0

@@ -22,15 +22,15 @@ port-of-one net here there same = (
   sym (here .port) ∙ ap (λ (e : ℕ). channelOf net e .port) same ∙ there .port,
 )
 
-module _ (net : Network) (obeys : Obeys net) (a : table.Network) (entries : Entries net a) (input : List ℕ) (at : (n : ℕ) → n < length (net .nodes) → (p : ℕ) → p < inputs (nodeOf net n .kind) → AtPort net n p (portOf input n p)) where
+module _ (net : Network) (a : table.Network) (entries : Entries net a) (input : List ℕ) (at : (n : ℕ) → n < length (net .nodes) → (p : ℕ) → p < inputs (nodeOf net n .kind) → AtPort net n p (portOf input n p)) where
   abbrev wired : Wires
   wired = wires (a .node .kind) (a .node .constant) (a .node .period) (a .node .deadline) input
 
   port-at : (n : ℕ) → n < length (net .nodes) → (p : ℕ) → p < inputsAt wired n → AtPort net n p (portOf input n p)
   port-at n h p k = at n h p (rw (entries .kind n h) at k)
 
-  pub starts-readable : (n : ℕ) → n < length (net .nodes) → Readable (length (net .channels)) wired n
-  starts-readable n h =
+  pub starts-readable : Obeys net → (n : ℕ) → n < length (net .nodes) → Readable (length (net .channels)) wired n
+  starts-readable obeys n h =
       let limits = node-limits (nodeOf net n) (obeys .nodeFields n h) in
       record {
         kind = omega (arith, entries .kind n h, limits .kind);

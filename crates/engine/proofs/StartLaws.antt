@@ -80,8 +80,8 @@ module _ (net : Network) (obeys : Obeys net) (base input first follow : List ℕ
           few = few-nodes net obeys;
           walks = λ n h. setUp .walks n (omega (arith, few-nodes net obeys)) .1;
           outs = setUp .ends .1;
-          readable = starts-readable net obeys (laid (read net)) entries input at;
-          separate = starts-separate net obeys (laid (read net)) entries input at;
+          readable = starts-readable net (laid (read net)) entries input at obeys;
+          separate = starts-separate net (laid (read net)) entries input at;
         };
         wired = record {
           channels = refl;

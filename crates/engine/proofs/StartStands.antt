@@ -24,6 +24,24 @@ use Rattle.engine.proofs.StartFields.{Entries, node-limits}
 use Rattle.engine.proofs.StartRings.{base-at, starts-rings}
 use Rattle.engine.proofs.StartHeld.{signed-patterns, queue-straight, all-places, tokens-at}
 
+-- nothing waits, and every node is released at 0
+module _ (net : Network) (obeys : Obeys net) where
+  starts-waiting : (n : ℕ) → n < length (net .nodes) → waitingOf (initial net) n ≡ waitingAt startPendings n
+  unfolding initial
+  starts-waiting n h =
+      let due : getD (replicate 32 never) n 0 ≡ never = getD-replicate 32 n never 0 (omega (arith, few-nodes net obeys)) in
+      rw due (getD-tab (length (net .nodes)) (λ m. none) n none h)
+
+  starts-next : (n : ℕ) → n < length (net .nodes) → NextRelease (nodeOf net n) 0 (getD (startPendings .next) n 0)
+  starts-next n h =
+      let next : getD (replicate {A = ℕ} 32 0) n 0 ≡ 0 = getD-replicate 32 n 0 0 (omega (arith, few-nodes net obeys)) in
+      rw next
+      (record {
+        multiple = zero-mod (nodeOf net n .period);
+        from = omega arith;
+        within = omega (arith, node-limits (nodeOf net n) (obeys .nodeFields n h) .some);
+      })
+
 module _ (net : Network) (obeys : Obeys net) (a : table.Network) (entries : Entries net a) (base : List ℕ) (sums : (c : ℕ) → c < length (net .channels) → getD base c 0 ≡ total c (λ d. getD (a .channel .capacity) d 0)) where
   abbrev rings : Shape
   rings = shape (length (net .channels)) (a .channel .sort) base (a .channel .capacity)
@@ -44,30 +62,14 @@ module _ (net : Network) (obeys : Obeys net) (a : table.Network) (entries : Entr
       = queue-straight (map pattern held) places (capacities net c) (getD (a .channel .capacity) c 0) 0
       (omega (arith, obeys .initially c h, entries .capacity c h, fields-of net obeys c h .within))
       (λ i under. rw zero-add (tokens-at net obeys c h i (omega arith))) in
-      rw (head, len, base-at net obeys a entries base sums c h, entries .tokens, straight)
+      rw (head, len, base-at net a entries base sums c h, entries .tokens, straight)
       (sym (signed-patterns held (record { at = obeys .tokenFits c })))
-
-  starts-waiting : (n : ℕ) → n < length (net .nodes) → waitingOf (initial net) n ≡ waitingAt startPendings n
-  unfolding initial
-  starts-waiting n h =
-      let due : getD (replicate 32 never) n 0 ≡ never = getD-replicate 32 n never 0 (omega (arith, few-nodes net obeys)) in
-      rw due (getD-tab (length (net .nodes)) (λ m. none) n none h)
-
-  starts-next : (n : ℕ) → n < length (net .nodes) → NextRelease (nodeOf net n) 0 (getD (startPendings .next) n 0)
-  starts-next n h =
-      let next : getD (replicate {A = ℕ} 32 0) n 0 ≡ 0 = getD-replicate 32 n 0 0 (omega (arith, few-nodes net obeys)) in
-      rw next
-      (record {
-        multiple = zero-mod (nodeOf net n .period);
-        from = omega arith;
-        within = omega (arith, node-limits (nodeOf net n) (obeys .nodeFields n h) .some);
-      })
 
   pub starts-represents : Represents net rings 0 (initial net) full startPendings
   starts-represents =
       record {
-        rings = starts-rings net obeys a entries base sums (rw (entries .tokens) (all-places net obeys));
+        rings = starts-rings net a entries base sums obeys (rw (entries .tokens) (all-places net obeys));
         held = starts-held;
-        waits = starts-waiting;
-        next = starts-next;
+        waits = starts-waiting net obeys;
+        next = starts-next net obeys;
       }

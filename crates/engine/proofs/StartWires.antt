@@ -64,8 +64,8 @@ module _ (net : Network) (obeys : Obeys net) where
       }
 
   -- no other channel is at the port
-  alone : (n : ℕ) → n < length (net .nodes) → (p : ℕ) → p < inputs (nodeOf net n .kind) → (d : ℕ) → lowest (length (net .channels)) (serves net n p) < d → d < length (net .channels) → serves net n p d ≡ false
-  alone n h p k d over under =
+  alone : (n : ℕ) → n < length (net .nodes) → (p d : ℕ) → lowest (length (net .channels)) (serves net n p) < d → d < length (net .channels) → serves net n p d ≡ false
+  alone n h p d over under =
       by-test (serves net n p d)
       (λ e.
       let reads : eqb (channelOf net d .reader) n ≡ true = and-left (eqb (channelOf net d .reader) n) (eqb (channelOf net d .port) p) e in
@@ -93,4 +93,4 @@ module _ (net : Network) (obeys : Obeys net) where
         let port : getD (a .channel .port) c 0 ≡ p = entries .port c (here .there) ∙ here .port in
         rw (reader, port) at
         (stands c (here .there) (omega (arith, few-nodes net obeys))
-        (λ d over under. rw (reader, port, entries .reader d under, entries .port d under) (alone n h p k d over under)))
+        (λ d over under. rw (reader, port, entries .reader d under, entries .port d under) (alone n h p d over under)))

@@ -11,10 +11,10 @@ use Rattle.steps.specs.Rings.{Shape, Cells, Rings}
 use Rattle.steps.specs.Writes.{toEach, dueBelow, WroteWalk, WroteDue}
 use Rattle.steps.proofs.WroteLaws.{wrote-none, wrote-then, wrote-ext}
 
-module _ {s : Shape} {x : Cells} {t : ℕ} {due value first follow : List ℕ} (rings : Rings s x) where
-  pub none-due : WroteDue s x 0 t due value first follow x (s .channels)
+module _ {s : Shape} {x : Cells} {t : ℕ} {due value first follow : List ℕ} where
+  pub none-due : Rings s x → WroteDue s x 0 t due value first follow x (s .channels)
   unfolding dueBelow
-  none-due = record { rings = rings; wrote = λ mine walks. wrote-none s x rings }
+  none-due rings = record { rings = rings; wrote = λ mine walks. wrote-none s x rings }
 
   pub due-turn : {y z : Cells} {n full f lower : ℕ} → getD due n 0 ≡ t → lower ≡ min full f → WroteDue s x n t due value first follow y full → WroteWalk s y follow (getD first n 0) (getD value n 0) z f → WroteDue s x (n + 1) t due value first follow z lower
   unfolding dueBelow
@@ -25,7 +25,7 @@ module _ {s : Shape} {x : Cells} {t : ℕ} {due value first follow : List ℕ} (
         wrote = λ mine walks.
             wrote-ext s x z (λ c. dueBelow n t due value mine c ++ toEach (mine n) (getD value n 0) c) (dueBelow (suc n) t due value mine)
             (min full f) (λ c h. rw (eq-eqb (getD due n 0) t now))
-            (wrote-then s x y z (dueBelow n t due value mine) (toEach (mine n) (getD value n 0)) full f rings (before .wrote mine (λ m h. walks m (omega arith))) (written .wrote (mine n) (walks n (omega arith))));
+            (wrote-then s x y z (dueBelow n t due value mine) (toEach (mine n) (getD value n 0)) full f (before .wrote mine (λ m h. walks m (omega arith))) (written .wrote (mine n) (walks n (omega arith))));
       })
 
   pub due-skip : {y : Cells} {n full : ℕ} → (getD due n 0 ≡ t → ⊥) → WroteDue s x n t due value first follow y full → WroteDue s x (n + 1) t due value first follow y full

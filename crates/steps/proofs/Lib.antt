@@ -1,3 +1,4 @@
+pub mod EqualTurned
 pub mod Results
 pub mod RingLaws
 pub mod WroteLaws

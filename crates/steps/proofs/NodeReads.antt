@@ -67,12 +67,12 @@ module _ (net : Network) (s : Shape) (w : Wires) (v : Ways) (obeys : Obeys net) 
       (λ f. rw f)) in
       rw (inputs-same, none, e))
 
-  module _ (z : Cells) (held : List (List ℤ)) (rings : Rings s z)
+  module _ (z : Cells) (held : List (List ℤ))
       (holds : (c : ℕ) → c < length (net .channels) → heldIn held c ≡ map signed (heldAt s z c)) where
     -- every channel at the node's ports holds a token where the node is ready
-    pub hold-ready : ready net held n ≡ allHold s z (w .input) n (inputsAt w n)
+    pub hold-ready : Rings s z → ready net held n ≡ allHold s z (w .input) n (inputsAt w n)
     unfolding ready allHold
-    hold-ready =
+    hold-ready rings =
         let count = inputs (nodeOf net n .kind) in
         let channels = length (net .channels) in
         let has : ℕ → Bool = λ c. not (eqb (channelOf net c .reader) n) || (isRegister (channelOf net c) || not (isEmpty (heldIn held c))) in

@@ -9,41 +9,12 @@ use mathlib.Core.Path.{_≡_, sym, _∙_}
 use lib.Dec.{leb, ltb, eqb}
 use lib.ListN.{length, getD, take, set, length-set}
 use lib.Seq.{take-suc-set}
-use borrow.Author.Tests.{ltb-true, ltb-false, leb-true, leb-false, le-leb, lt-ltb, le-ltb, eq-eqb, ne-eqb}
-use Rattle.rules.specs.Lists.{lowest}
+use borrow.Author.Tests.{leb-true, leb-false, lt-ltb, le-ltb, eq-eqb, ne-eqb}
 use Rattle.rules.specs.Kinds.{signed}
 use Rattle.rules.specs.Instant.{word}
-use Rattle.rules.proofs.ListLaws.{and-right, by-test, lowest-is}
-use Rattle.steps.specs.Writes.{nextFrom, Walk, Climbs, wordsBelow, Gathered}
-
--- no number from k on and below c has the property f; c has it, unless it is the end
-record IsNext (n : ℕ) (f : ℕ → Bool) (k c : ℕ) : Type 0 where
-  pub without : (i : ℕ) → k ≤ i → i < min c n → f i ≡ false
-  pub has : c < 64 → f c ≡ true
-
-next-is : (n : ℕ) (f : ℕ → Bool) (k : ℕ) → n ≤ 64 → IsNext n f k (nextFrom n f k)
-unfolding nextFrom
-next-is n f k few =
-    let l : ℕ = lowest n (λ i. leb k i && f i) in
-    let low = lowest-is n (λ i. leb k i && f i) in
-    let none : (i : ℕ) → k ≤ i → i < l → f i ≡ false = λ i from below. rw (le-leb k i from) at (low .without i below) in
-    by-test (ltb l n)
-    (λ e.
-    rw e
-    (record {
-      without = λ i from below. none i from (omega arith);
-      has = λ h. and-right (leb k l) (f l) (low .found (ltb-true l n e));
-    }))
-    (λ e.
-    rw e
-    (record { without = λ i from below. none i from (omega (arith, ltb-false l n e)); has = λ h. absurd (omega arith) }))
-
-module _ {channels : ℕ} {follow : List ℕ} {first : ℕ} {outs : ℕ → Bool} (few : channels ≤ 64) (walk : Walk channels follow first outs) where
-  first-is : IsNext channels outs 0 first
-  first-is = rw (walk .starts) (next-is channels outs 0 few)
-
-  follow-is : (c : ℕ) → c < channels → outs c ≡ true → IsNext channels outs (suc c) (getD follow c 0)
-  follow-is c below mine = rw (walk .goesOn c below mine) (next-is channels outs (suc c) few)
+use Rattle.rules.proofs.ListLaws.{by-test}
+use Rattle.steps.specs.Writes.{Walk, Climbs, wordsBelow, Gathered}
+use Rattle.steps.proofs.WalkLaws.{IsNext, starts-at, goes-on}
 
 module _ (t : ℕ) (writer due value : List ℕ) where
   -- the writer of channel c has a result due
@@ -110,8 +81,8 @@ module _ {t : ℕ} {writer due value : List ℕ} {channels : ℕ} {follow : List
         few = omega arith;
         among = climbs .from;
         places = places;
-        on = λ outs walk. first-is (climbs .few) walk .has;
-        gathers = λ outs walk. sym (words-over t writer due value outs 0 (min first channels) (omega arith) (first-is (climbs .few) walk .without));
+        on = λ outs walk. starts-at outs walk .holds;
+        gathers = λ outs walk. sym (words-over t writer due value outs 0 (min first channels) (omega arith) (starts-at outs walk .without));
       }
 
   module _ {words : List ℕ} {count c : ℕ} (so : GatheredTo t writer due value channels follow first words count c) where
@@ -121,13 +92,13 @@ module _ {t : ℕ} {writer due value : List ℕ} {channels : ℕ} {follow : List
         let here : c < channels = so .among inside in
         let up : c < getD follow c 0 = climbs .up c here in
         let next : (outs : ℕ → Bool) → Walk channels follow first outs → IsNext channels outs (suc c) (getD follow c 0)
-        = λ outs walk. follow-is (climbs .few) walk c here (so .on outs walk inside) in
+        = λ outs walk. goes-on outs c walk here (so .on outs walk inside) in
         let reached : min c channels ≡ c = omega arith in
         record {
           few = omega (arith, so .few, turn .most);
           among = climbs .stays c here;
           places = turn .places;
-          on = λ outs walk. next outs walk .has;
+          on = λ outs walk. next outs walk .holds;
           gathers = λ outs walk.
               let before : take count words ≡ wordsBelow c t writer due value outs = rw reached at (so .gathers outs walk) in
               rw (words-over t writer due value outs (suc c) (min (getD follow c 0) channels) (omega arith) (next outs walk .without), so .on outs walk inside, turn .adds, before);

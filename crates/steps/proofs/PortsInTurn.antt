@@ -4,22 +4,18 @@ use Prim.Native.Nat.{ℕ, suc, _≤_, _<_, min}
 use native.Mathlib.Omega.{arith}
 use mathlib.Core.Bool.{Bool, true, false, not, _&&_, and-true, Bool·not-not}
 use mathlib.Core.List.{List}
-use mathlib.Core.Path.{_≡_, refl, sym, _∙_, ap}
+use mathlib.Core.Path.{_≡_, refl, ap}
 use lib.Dec.{eqb, ltb}
 use lib.ListN.{getD}
-use borrow.Author.Tests.{ltb-true, ltb-false, eqb-true, eqb-false, eq-eqb, ne-eqb}
+use borrow.Author.Tests.{ltb-true, ltb-false, eqb-true}
 use Rattle.rules.specs.Lists.{every}
 use Rattle.rules.proofs.ListLaws.{by-test, and-left, and-right, every-all}
 use Rattle.steps.specs.Rings.{Shape, Cells, Rings, Took, heldAt, registerAt}
 use Rattle.steps.specs.Taking.{portOf, Ported, atPort, allHold, found}
 use Rattle.steps.proofs.RingLaws.{length-held}
+use Rattle.steps.proofs.EqualTurned.{eqb-sym}
 use Rattle.steps.proofs.TookLaws.{took-none, took-ext, took-then, either-takes}
 use Rattle.steps.proofs.TakenPorts.{hold-length, queueAt}
-
-eqb-sym : (a b : ℕ) → eqb a b ≡ eqb b a
-eqb-sym a b =
-    by-test (eqb a b) (λ e. e ∙ sym (eq-eqb b a (sym (eqb-true a b e))))
-    (λ e. e ∙ sym (ne-eqb b a (λ h. eqb-false a b e (sym h))))
 
 -- a port's channel is at none of the earlier ports
 not-earlier : {channels : ℕ} {input : List ℕ} {n count : ℕ} → Ported channels input n count → (k : ℕ) → k < count → atPort input n k (portOf input n k) ≡ false
@@ -32,6 +28,30 @@ not-earlier {channels} {input} {n} {count} ported k h =
 -- channel c is a queue at one of the node's first k ports
 abbrev pub queueBelow : Shape → List ℕ → ℕ → ℕ → ℕ → ℕ → Bool
 queueBelow s input n count k c = atPort input n (min k count) c && not (registerAt s c)
+
+module _ (s : Shape) (input : List ℕ) (n count : ℕ) where
+  -- before the first port
+  no-port-yet : (x : Cells) → Rings s x → Took s x (queueBelow s input n count 0) x
+  unfolding atPort every
+  no-port-yet x rings =
+      let none : min 0 count ≡ 0 = omega arith in
+      took-ext (took-none rings) (λ c. rw none refl)
+
+  -- a port and the ports before it
+  one-port-more : (k c : ℕ) → not (not (queueBelow s input n count k c) && not (queueAt s input n count k c)) ≡ queueBelow s input n count (suc k) c
+  unfolding atPort every
+  one-port-more k c =
+      by-test (ltb k count)
+      (λ e.
+      let below : k < count = ltb-true k count e in
+      let least : min k count ≡ k = omega arith in
+      let more : min (suc k) count ≡ suc k = omega arith in
+      rw (e, least, more, eqb-sym c (portOf input n k))
+      (either-takes (every k (λ p. not (eqb (portOf input n p) c))) (eqb (portOf input n k) c) (not (registerAt s c))))
+      (λ e.
+      let behind : count ≤ k = ltb-false k count e in
+      let same : min (suc k) count ≡ min k count = omega arith in
+      rw (e, same, and-true, Bool·not-not))
 
 module _ (s : Shape) (input : List ℕ) (n count : ℕ) (ported : Ported (s .channels) input n count) where
   -- once the earlier ports are taken, a port's channel is as it was
@@ -50,13 +70,6 @@ module _ (s : Shape) (input : List ℕ) (n count : ℕ) (ported : Ported (s .cha
       rw (← length-held s y (portOf input n k), port-held x y k h t, length-held s x (portOf input n k))
       (hold-length s x input n count holds k h)
 
-  -- before the first port
-  pub no-port-yet : (x : Cells) → Rings s x → Took s x (queueBelow s input n count 0) x
-  unfolding atPort every
-  no-port-yet x rings =
-      let none : min 0 count ≡ 0 = omega arith in
-      took-ext (took-none rings) (λ c. rw none refl)
-
   apart-from-earlier : (k c : ℕ) → queueAt s input n count k c ≡ true → queueBelow s input n count k c ≡ false
   apart-from-earlier k c h =
       let both = and-left (ltb k count && eqb c (portOf input n k)) (not (registerAt s c)) h in
@@ -64,23 +77,8 @@ module _ (s : Shape) (input : List ℕ) (n count : ℕ) (ported : Ported (s .cha
       let least : min k count ≡ k = omega arith in
       rw (eqb-true c (portOf input n k) (and-right (ltb k count) (eqb c (portOf input n k)) both), least, not-earlier ported k below)
 
-  one-port-more : (k c : ℕ) → not (not (queueBelow s input n count k c) && not (queueAt s input n count k c)) ≡ queueBelow s input n count (suc k) c
-  unfolding atPort every
-  one-port-more k c =
-      by-test (ltb k count)
-      (λ e.
-      let below : k < count = ltb-true k count e in
-      let least : min k count ≡ k = omega arith in
-      let more : min (suc k) count ≡ suc k = omega arith in
-      rw (e, least, more, eqb-sym c (portOf input n k))
-      (either-takes (every k (λ p. not (eqb (portOf input n p) c))) (eqb (portOf input n k) c) (not (registerAt s c))))
-      (λ e.
-      let behind : count ≤ k = ltb-false k count e in
-      let same : min (suc k) count ≡ min k count = omega arith in
-      rw (e, same, and-true, Bool·not-not))
-
   pub next-port : (x y z : Cells) (k : ℕ) → Took s x (queueBelow s input n count k) y → Took s y (queueAt s input n count k) z → Took s x (queueBelow s input n count (suc k)) z
-  next-port x y z k t u = took-ext (took-then t u (apart-from-earlier k)) (one-port-more k)
+  next-port x y z k t u = took-ext (took-then t u (apart-from-earlier k)) (one-port-more s input n count k)
 
   pub first-port : (x y : Cells) → Rings s x → Took s x (queueAt s input n count 0) y → Took s x (queueBelow s input n count 1) y
-  first-port x y rings t = next-port x x y 0 (no-port-yet x rings) t
+  first-port x y rings t = next-port x x y 0 (no-port-yet s input n count x rings) t

@@ -12,7 +12,6 @@ use Rattle.rules.specs.declared.Node.{Node}
 use Rattle.rules.specs.Kinds.{signed}
 use Rattle.rules.specs.Instant.{Waiting, isDue, waitFor}
 use Rattle.rules.proofs.ListLaws.{by-test}
-use Rattle.rules.proofs.Checks.{NodeFields}
 use Rattle.rules.proofs.Sound.{Due}
 use Rattle.steps.specs.Writes.{never}
 use Rattle.steps.specs.Nodes.{Wires, Pendings, waitingBy, nextThen}
@@ -50,9 +49,9 @@ next-is-now node t next release =
     ∙ sym e)
 
 -- the next release after an instant
-pub next-after : (w : Wires) (p : Pendings) (n : ℕ) (node : Node) (t : ℕ) → NodeFields node → getD (w .period) n 0 ≡ node .period
+pub next-after : (w : Wires) (p : Pendings) (n : ℕ) (node : Node) (t : ℕ) → getD (w .period) n 0 ≡ node .period
     → NextRelease node t (getD (p .next) n 0) → NextRelease node (suc t) (nextThen w p t n)
-next-after w p n node t fields its release =
+next-after w p n node t its release =
     let next = getD (p .next) n 0 in
     by-test (eqb next t)
     (λ e.

@@ -3,19 +3,19 @@
 use Prim.Native.Nat.{ℕ, zero, suc, _+_, _-_, _≤_, _<_, _^_}
 use native.Mathlib.Nat.{add-zero, add-suc, le-refl}
 use native.Mathlib.Omega.{arith}
-use mathlib.Core.Bool.{false, cond}
+use mathlib.Core.Bool.{false}
 use mathlib.Core.List.{List}
 use mathlib.Core.Path.{_≡_}
 use lib.Dec.{eqb, ltb}
 use lib.ListN.{length, getD}
 use borrow.Author.Tests.{ltb-true, ltb-false, lt-ltb, ne-eqb}
-use Rattle.rules.specs.Network.{Network, Obeys}
+use Rattle.rules.specs.Network.{Network}
 use Rattle.rules.specs.Instant.{State, timeIn}
 use Rattle.rules.proofs.ListLaws.{by-test}
 use Rattle.rules.proofs.Sound.{Sound, Idle}
 use Rattle.rules.proofs.Arrivals.{Faultless}
 use Rattle.steps.specs.Rings.{Shape, Cells}
-use Rattle.steps.specs.Writes.{never, WroteArrivals, arrivalAt}
+use Rattle.steps.specs.Writes.{WroteArrivals, arrivalAt}
 use Rattle.steps.specs.Nodes.{Pendings, soonest}
 use Rattle.steps.specs.Represents.{Represents, Cursor}
 use Rattle.steps.proofs.ArrivingLaws.{in-order, stamped-later}
@@ -37,13 +37,13 @@ not-earlier net arrivals faultless i (suc k) h =
     let order = in-order net arrivals (i + k) (faultless (suc (i + k)) there) in
     rw add-suc (omega arith)
 
-module _ (net : Network) (arrivals : List ℕ) (from t : ℕ) (faultless : Faultless net arrivals) (cursor : Cursor arrivals from t) where
-  arrival-later : t ≤ 2 ^ 24 → t ≤ arrivalAt arrivals from
-  arrival-later early =
-      by-test (ltb from (length arrivals))
-      (λ e. rw e (cursor .ahead from (le-refl from) (ltb-true from (length arrivals) e)))
-      (λ e. rw e (omega arith))
+arrival-later : (arrivals : List ℕ) (from t : ℕ) → Cursor arrivals from t → t ≤ 2 ^ 24 → t ≤ arrivalAt arrivals from
+arrival-later arrivals from t cursor early =
+    by-test (ltb from (length arrivals))
+    (λ e. rw e (cursor .ahead from (le-refl from) (ltb-true from (length arrivals) e)))
+    (λ e. rw e (omega arith))
 
+module _ (net : Network) (arrivals : List ℕ) (from t : ℕ) (faultless : Faultless net arrivals) (cursor : Cursor arrivals from t) where
   -- the cursor stands up to the arrival at it
   cursor-later : (later : ℕ) → t ≤ later → later ≤ arrivalAt arrivals from → Cursor arrivals from later
   cursor-later later up before =
@@ -74,29 +74,28 @@ module _ (net : Network) (arrivals : List ℕ) (from t : ℕ) (faultless : Fault
 -- t is the instant that follows one whose arrivals are all passed
 pub skips :
     (net : Network) (arrivals : List ℕ) (s : Shape) (from t : ℕ) (st : State) (x : Cells) (p : Pendings)
-    → Obeys net
     → Faultless net arrivals
     → t ≤ 2 ^ 24
     → Sound net t st
     → Represents net s t st x p
     → Cursor arrivals from t
     → Skipped net arrivals s from t (soonest p (arrivalAt arrivals from) (length (net .nodes))) st x p
-skips net arrivals s from t st x p obeys faultless early sound rep cursor =
+skips net arrivals s from t st x p faultless early sound rep cursor =
     let arrival = arrivalAt arrivals from in
     let soon = soonest p arrival (length (net .nodes)) in
     let given : soon ≤ arrival = soonest-given p arrival (length (net .nodes)) in
     let each = soonest-at p arrival (length (net .nodes)) in
     let later : t ≤ soon =
-    soonest-from p arrival t (length (net .nodes)) (arrival-later net arrivals from t faultless cursor early) (node-later net s t st x p sound rep early) in
+    soonest-from p arrival t (length (net .nodes)) (arrival-later arrivals from t cursor early) (node-later net s t st x p sound rep early) in
     record {
       later = later;
       idle = λ i up before.
           record {
             noneDue = none-due net s t st x p sound rep i (λ n below. omega (arith, each n below));
-            noneReleased = none-released net s t st x p sound rep i up (λ n below. omega (arith, each n below));
+            noneReleased = none-released net s t st x p rep i up (λ n below. omega (arith, each n below));
             noArrival = no-arrival net arrivals from t faultless cursor i up (omega arith);
           };
-      represents = represents-later net s t st x p sound rep soon later each;
+      represents = represents-later net s t st x p rep soon later each;
       cursor = cursor-later net arrivals from t faultless cursor soon later given;
     }
 

@@ -91,6 +91,7 @@ module _ (net : Network) (s : Shape) (t : ℕ) (st : State) (x : Cells) (p : Pen
       let past : length (st .waiting) ≤ n = omega (arith, ltb-false n (length (net .nodes)) e, sound .nodes) in
       rw (List·getD-eq-default (st .waiting) none past))
 
+module _ (net : Network) (s : Shape) (t : ℕ) (st : State) (x : Cells) (p : Pendings) (rep : Represents net s t st x p) where
   pub none-released : (i : ℕ) → t ≤ i → ((n : ℕ) → n < length (net .nodes) → i < soonAt p n) → (n : ℕ) → released net i n ≡ false
   none-released i up before n =
       by-test (ltb n (length (net .nodes)))

@@ -2,14 +2,15 @@
 use Prim.Native.Nat.{ℕ, suc, _+_, _-_, _%_, _^_, _≤_, _<_, min}
 use native.Mathlib.Omega.{arith}
 use mathlib.Core.List.{List, _++_}
-use mathlib.Core.Path.{_≡_, sym, _∙_}
+use mathlib.Core.Path.{_≡_}
 use lib.Dec.{eqb, ltb}
 use lib.ListN.{length, getD}
-use borrow.Author.Tests.{ltb-true, ltb-false, eqb-true, eqb-false, eq-eqb, ne-eqb}
+use borrow.Author.Tests.{ltb-true, ltb-false, ne-eqb}
 use Rattle.rules.specs.Instant.{channelIn, timeIn}
 use Rattle.rules.proofs.ListLaws.{by-test}
 use Rattle.steps.specs.Rings.{Shape, Cells, Rings, Wrote}
 use Rattle.steps.specs.Writes.{toEach, valuesOn, WroteArrivals}
+use Rattle.steps.proofs.EqualTurned.{eqb-sym}
 use Rattle.steps.proofs.WroteLaws.{wrote-none, wrote-then, wrote-ext}
 
 -- the arrivals from an index up to i are stamped t, and are written
@@ -19,23 +20,18 @@ pub record WrittenTo (s : Shape) (x : Cells) (arrivals : List ℕ) (from t : ℕ
   pub stamped : (j : ℕ) → from ≤ j → j < i → timeIn (getD arrivals j 0) ≡ t
   pub wrote : Wrote s x (valuesOn arrivals from (i - from)) y full
 
-eqb-turned : (a b : ℕ) → eqb a b ≡ eqb b a
-eqb-turned a b =
-    by-test (eqb a b) (λ e. e ∙ sym (eq-eqb b a (sym (eqb-true a b e))))
-    (λ e. e ∙ sym (ne-eqb b a (λ same. eqb-false a b e (sym same))))
-
 -- an arrival behind those from an index to i is one value more on its channel
 one-more : (arrivals : List ℕ) (from i c v d : ℕ) → from ≤ i → c ≡ channelIn (getD arrivals i 0) → v ≡ getD arrivals i 0 % 2 ^ 32 → valuesOn arrivals from (i - from) d ++ toEach (λ e. eqb e c) v d ≡ valuesOn arrivals from (i + 1 - from) d
 unfolding valuesOn
 one-more arrivals from i c v d on channel value =
     let longer : i + 1 - from ≡ suc (i - from) = omega arith in
     let place : from + (i - from) ≡ i = omega arith in
-    rw (longer, place, ← channel, ← value, eqb-turned c d)
+    rw (longer, place, ← channel, ← value, eqb-sym c d)
 
-module _ {s : Shape} {x : Cells} {arrivals : List ℕ} {from t : ℕ} (rings : Rings s x) where
-  pub none-written : from ≤ length arrivals → WrittenTo s x arrivals from t x from (s .channels)
+module _ {s : Shape} {x : Cells} {arrivals : List ℕ} {from t : ℕ} where
+  pub none-written : Rings s x → from ≤ length arrivals → WrittenTo s x arrivals from t x from (s .channels)
   unfolding valuesOn
-  none-written within =
+  none-written rings within =
       record {
         on = omega arith;
         within = within;
@@ -60,7 +56,7 @@ module _ {s : Shape} {x : Cells} {arrivals : List ℕ} {from t : ℕ} (rings : R
             (wrote-ext s x z (λ d. valuesOn arrivals from (i - from) d ++ toEach (λ e. eqb e c) v d)
             (valuesOn arrivals from (i + 1 - from)) (min full f)
             (λ d h. one-more arrivals from i c v d (before .on) channel value)
-            (wrote-then s x y z (valuesOn arrivals from (i - from)) (toEach (λ e. eqb e c) v) full f rings (before .wrote) put));
+            (wrote-then s x y z (valuesOn arrivals from (i - from)) (toEach (λ e. eqb e c) v) full f (before .wrote) put));
       }
 
   -- the arrivals end, or the next one is stamped otherwise

@@ -66,7 +66,7 @@ module _ {net : Network} {arrivals : List ℕ} {s : Shape} {w : Wires} {v : Ways
     (places : length words ≡ 64) where
   words-same : take more words ≡ outWords net arrivals t st
   words-same =
-      words-stand net arrivals t st s w v x p words more (written .obeys) (written .faultless) (written .early) (written .sound) (written .wired) (written .represents) (rw (written .wired .channels) at gathered)
+      words-stand net arrivals t st s w v x p words more (written .obeys) (written .faultless) (written .early) (written .wired) (written .represents) (rw (written .wired .channels) at gathered)
 
   many-words : length (outWords net arrivals t st) ≡ more
   many-words =
@@ -101,7 +101,7 @@ module _ {net : Network} {arrivals : List ℕ} {s : Shape} {w : Wires} {v : Ways
         many = many-words;
         list = rw (← words-same) list;
         represents =
-            reads-stand net arrivals t st s w v x z u p q (written .obeys) (written .early) (written .sound) (written .wired) (written .represents) (written .rings) (written .held) (rw all at reads);
+            reads-stand net arrivals t st s w v x z u p q (written .obeys) (written .sound) (written .wired) (written .represents) (written .rings) (written .held) (rw all at reads);
         cursor = written .cursor;
         earliest = rw (← comes, ← all) earliest;
         sized = record { nexts = reads .nexts; dues = reads .dues; values = reads .values };

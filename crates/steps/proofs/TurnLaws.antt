@@ -1,13 +1,12 @@
 -- What a node's turn to read stores is what it should: its state after a release, its result written, or nothing. Assumes nothing.
 use Prim.Native.Nat.{ℕ, _<_, min}
 use native.Mathlib.Omega.{arith}
-use mathlib.Core.Bool.{Bool, true, false, not, _&&_, and-true, Bool·not-not}
-use mathlib.Core.Path.{_≡_, refl, _∙_, ap}
+use mathlib.Core.Bool.{true, false, not, _&&_}
+use mathlib.Core.Path.{_≡_, _∙_}
 use lib.Dec.{eqb}
-use lib.ListN.{getD, set, drop, length-set}
+use lib.ListN.{getD, set, length-set}
 use lib.Seq.{getD-set-same, getD-set-other, set-getD}
 use borrow.Author.Tests.{eq-eqb, ne-eqb, eqb-false}
-use Rattle.rules.proofs.ListLaws.{by-test}
 use Rattle.steps.specs.declared.Pending.{Pending}
 use Rattle.steps.specs.Rings.{Shape, Cells, Rings, Took, registerAt}
 use Rattle.steps.specs.Writes.{never}
@@ -23,10 +22,10 @@ pub stored-same : (p : Pendings) (n : ℕ) → stored p n (pendingAt p n) ≡ p
 stored-same p n = λ i.
     record { next = set-getD (p .next) n 0 i; due = set-getD (p .due) n 0 i; value = set-getD (p .value) n 0 i }
 
-module _ {w : Wires} {s : Shape} {x : Cells} {p : Pendings} {t n : ℕ} (sized : Sized p) (few : n < 32) where
+module _ {w : Wires} {s : Shape} {x : Cells} {p : Pendings} {n : ℕ} (sized : Sized p) (few : n < 32) where
   -- what is stored for node n is what its turn makes of it
-  turned : {y : Cells} (a : Pending) {m : ℕ} → Took s x (λ c. (aheadAt w s x p t n && atPort (w .input) n (inputsAt w n) c) && not (registerAt s c)) y → waitingBy (a .due) (a .value) ≡ waitingThen w s x p t n → a .next ≡ nextThen w p t n → m ≡ min (a .next) (a .due) → Turned w s x p t n y (stored p n a) m
-  turned {y} a {m} took waits next soon =
+  turned : {t : ℕ} {y : Cells} (a : Pending) {m : ℕ} → Took s x (λ c. (aheadAt w s x p t n && atPort (w .input) n (inputsAt w n) c) && not (registerAt s c)) y → waitingBy (a .due) (a .value) ≡ waitingThen w s x p t n → a .next ≡ nextThen w p t n → m ≡ min (a .next) (a .due) → Turned w s x p t n y (stored p n a) m
+  turned a took waits next soon =
       let at-next : getD (set (p .next) n (a .next)) n 0 ≡ a .next = getD-set-same (p .next) n (a .next) 0 (omega arith) in
       let at-due : getD (set (p .due) n (a .due)) n 0 ≡ a .due = getD-set-same (p .due) n (a .due) 0 (omega arith) in
       let at-value : getD (set (p .value) n (a .value)) n 0 ≡ a .value = getD-set-same (p .value) n (a .value) 0 (omega arith) in
@@ -42,33 +41,37 @@ module _ {w : Wires} {s : Shape} {x : Cells} {p : Pendings} {t n : ℕ} (sized :
         soon = rw (at-next, at-due) soon;
       }
 
-  -- node n is released
-  pub turned-released : {y : Cells} {a : Pending} {m : ℕ} → getD (p .next) n 0 ≡ t → Released s x (w .input) n (getD (w .kind) n 0) (getD (w .constant) n 0) (getD (w .period) n 0) (getD (w .deadline) n 0) (pendingAt p n) y a → m ≡ min (a .next) (a .due) → Turned w s x p t n y (stored p n a) m
+  -- node n is released, at its next release
+  pub turned-released : {before : Pending} {y : Cells} {a : Pending} {m : ℕ} → before ≡ pendingAt p n → Released s x (w .input) n (getD (w .kind) n 0) (getD (w .constant) n 0) (getD (w .period) n 0) (getD (w .deadline) n 0) before y a → m ≡ min (a .next) (a .due) → Turned w s x p (before .next) n y (stored p n a) m
   unfolding waitingThen resultAt
-  turned-released {y} {a} {m} h r soon =
-      let now : releasedAt p t n ≡ true = eq-eqb (getD (p .next) n 0) t h in
-      turned a (rw now (r .took)) (rw now (rw h at (r .waits))) (rw now (rw h at (r .next))) soon
+  turned-released {before} {a} is r soon =
+      let now : releasedAt p (before .next) n ≡ true = eq-eqb (getD (p .next) n 0) (before .next) (rw is) in
+      turned a (rw now (r .took)) (rw now (r .waits)) (rw now (r .next)) soon
 
   -- its result is written
-  pub turned-due : {a : Pending} {m : ℕ} → Rings s x → (getD (p .next) n 0 ≡ t → ⊥) → getD (p .due) n 0 ≡ t → a ≡ record { next = getD (p .next) n 0; due = never; value = getD (p .value) n 0 } → m ≡ min (a .next) (a .due) → Turned w s x p t n x (pendings (p .next) (set (p .due) n (a .due)) (p .value)) m
+  pub turned-due : {t : ℕ} {a : Pending} {m : ℕ} → Rings s x → (getD (p .next) n 0 ≡ t → ⊥) → getD (p .due) n 0 ≡ t → a ≡ record { next = getD (p .next) n 0; due = never; value = getD (p .value) n 0 } → m ≡ min (a .next) (a .due) → Turned w s x p t n x (pendings (p .next) (set (p .due) n (a .due)) (p .value)) m
   unfolding waitingThen
-  turned-due {a} rings later due written soon =
+  turned-due {t} {a} rings later due written soon =
       let still : releasedAt p t n ≡ false = ne-eqb (getD (p .next) n 0) t later in
       let now : eqb (getD (p .due) n 0) t ≡ true = eq-eqb (getD (p .due) n 0) t due in
       rw written
       (rw (set-getD (p .next) n 0, set-getD (p .value) n 0) at
-      (turned {y = x} (record { next = getD (p .next) n 0; due = never; value = getD (p .value) n 0 }) (rw still (took-none rings)) (rw (still, now)) (rw still) (rw written at soon)))
+      (turned {t = t} {y = x} (record { next = getD (p .next) n 0; due = never; value = getD (p .value) n 0 }) (rw still (took-none rings)) (rw (still, now)) (rw still) (rw written at soon)))
 
   -- nothing happens to it
-  pub turned-idle : {m : ℕ} → Rings s x → (getD (p .next) n 0 ≡ t → ⊥) → (getD (p .due) n 0 ≡ t → ⊥) → m ≡ soonAt p n → Turned w s x p t n x p m
+  pub turned-idle : {t m : ℕ} → Rings s x → (getD (p .next) n 0 ≡ t → ⊥) → (getD (p .due) n 0 ≡ t → ⊥) → m ≡ soonAt p n → Turned w s x p t n x p m
   unfolding waitingThen
-  turned-idle rings later waiting soon =
+  turned-idle {t} rings later waiting soon =
       let still : releasedAt p t n ≡ false = ne-eqb (getD (p .next) n 0) t later in
       let stays : eqb (getD (p .due) n 0) t ≡ false = ne-eqb (getD (p .due) n 0) t waiting in
       rw (stored-same p n) at
-      (turned {y = x} (pendingAt p n) (rw still (took-none rings)) (rw (still, stays)) (rw still) soon)
+      (turned {t = t} {y = x} (pendingAt p n) (rw still (took-none rings)) (rw (still, stays)) (rw still) soon)
 
   -- and so where it is before its next release and before its result is due
-  pub turned-early : {m : ℕ} → Rings s x → t < m → m ≡ soonAt p n → Turned w s x p t n x p m
+  pub turned-early : {t m : ℕ} → Rings s x → t < m → m ≡ soonAt p n → Turned w s x p t n x p m
   turned-early rings early soon =
       turned-idle rings (λ e. omega (arith, early, soon, e)) (λ e. omega (arith, early, soon, e)) soon
+
+-- a node's turn at an instant that is t
+pub turned-at : {w : Wires} {s : Shape} {x y : Cells} {p q : Pendings} {i t n m : ℕ} → i ≡ t → Turned w s x p i n y q m → Turned w s x p t n y q m
+turned-at same turn = rw (← same) turn

@@ -14,32 +14,28 @@ use Rattle.steps.specs.Rings.{Shape, Cells, Rings, Wrote}
 use Rattle.steps.specs.Writes.{nextFrom, Walk, Climbs, toEach, WroteWalk}
 use Rattle.steps.proofs.WroteLaws.{wrote-none, wrote-then, wrote-ext}
 
--- c is the lowest number from k on and below n with the property f; where there is none, c is 64
+-- of the numbers below n from k on, none below c has the property f; c has it, unless it is 64
 pub record IsNext (n : ℕ) (f : ℕ → Bool) (k c : ℕ) : Type 0 where
-  pub inside : c < 64 → c < n
   pub holds : c < 64 → f c ≡ true
-  pub without : (i : ℕ) → k ≤ i → i < n → i < c → f i ≡ false
+  pub without : (i : ℕ) → k ≤ i → i < min c n → f i ≡ false
 
 next-of-lowest : (n : ℕ) (f : ℕ → Bool) (k l : ℕ) → IsLowest n (λ i. leb k i && f i) l → IsNext n f k (cond (ltb l n) l 64)
 next-of-lowest n f k l low =
     by-test (ltb l n)
     (λ e.
-    let below : l < n = ltb-true l n e in
     rw e
     (record {
-      inside = λ h. below;
-      holds = λ h. and-right (leb k l) (f l) (low .found below);
-      without = λ i from h under. rw (le-leb k i from) at (low .without i under);
+      holds = λ h. and-right (leb k l) (f l) (low .found (ltb-true l n e));
+      without = λ i from under. rw (le-leb k i from) at (low .without i (omega arith));
     }))
     (λ e.
     rw e
     (record {
-      inside = λ h. absurd (omega arith);
       holds = λ h. absurd (omega arith);
-      without = λ i from h under. rw (le-leb k i from) at (low .without i (omega (arith, ltb-false l n e)));
+      without = λ i from under. rw (le-leb k i from) at (low .without i (omega (arith, ltb-false l n e)));
     }))
 
-pub next-is : (n : ℕ) (f : ℕ → Bool) (k : ℕ) → IsNext n f k (nextFrom n f k)
+next-is : (n : ℕ) (f : ℕ → Bool) (k : ℕ) → IsNext n f k (nextFrom n f k)
 unfolding nextFrom
 next-is n f k = next-of-lowest n f k (lowest n (λ i. leb k i && f i)) (lowest-is n (λ i. leb k i && f i))
 
@@ -57,7 +53,7 @@ pub record WalkedTo (s : Shape) (x : Cells) (follow : List ℕ) (first v c : ℕ
 -- none is passed below the first, and between a channel and the next there is none
 not-passed : (n : ℕ) (mine : ℕ → Bool) (k c d : ℕ) → IsNext n mine k c → k ≤ d → d < n → passed mine c d ≡ false
 not-passed n mine k c d next from h =
-    by-test (ltb d c) (λ e. rw e (next .without d from h (ltb-true d c e))) (λ e. rw e refl)
+    by-test (ltb d c) (λ e. rw e (next .without d from (omega (arith, ltb-true d c e)))) (λ e. rw e refl)
 
 -- with the value on c, it stands on each that is passed at the next one
 passed-turn : (n v : ℕ) (mine : ℕ → Bool) (c f d : ℕ) → c < f → mine c ≡ true → IsNext n mine (suc c) f → d < n → toEach (passed mine c) v d ++ toEach (λ e. eqb e c) v d ≡ toEach (passed mine f) v d
@@ -87,9 +83,9 @@ starts-at {n} mine walk = rw (walk .starts) (next-is n mine 0)
 pub goes-on : {n first : ℕ} {follow : List ℕ} (mine : ℕ → Bool) (c : ℕ) → Walk n follow first mine → c < n → mine c ≡ true → IsNext n mine (suc c) (getD follow c 0)
 goes-on {n} mine c walk h stands = rw (walk .goesOn c h stands) (next-is n mine (suc c))
 
-module _ {s : Shape} {x : Cells} {follow : List ℕ} {first v : ℕ} (rings : Rings s x) (climbs : Climbs (s .channels) follow first) where
-  pub walk-starts : WalkedTo s x follow first v first x (s .channels)
-  walk-starts =
+module _ {s : Shape} {x : Cells} {follow : List ℕ} {first v : ℕ} (climbs : Climbs (s .channels) follow first) where
+  pub walk-starts : Rings s x → WalkedTo s x follow first v first x (s .channels)
+  walk-starts rings =
       record {
         rings = rings;
         inside = climbs .from;
@@ -114,7 +110,7 @@ module _ {s : Shape} {x : Cells} {follow : List ℕ} {first v : ℕ} (rings : Ri
             (min full f)
             (λ d below.
             passed-turn (s .channels) v mine c (getD follow c 0) d (climbs .up c (to .inside h)) (to .stands mine walk h) (goes-on mine c walk (to .inside h) (to .stands mine walk h)) below)
-            (wrote-then s x y z (toEach (passed mine c) v) (toEach (λ e. eqb e c) v) full f rings (to .wrote mine walk) put));
+            (wrote-then s x y z (toEach (passed mine c) v) (toEach (λ e. eqb e c) v) full f (to .wrote mine walk) put));
       }
 
   pub walk-ends : {y : Cells} {c full : ℕ} → 64 ≤ c → WalkedTo s x follow first v c y full → WroteWalk s x follow first v y full

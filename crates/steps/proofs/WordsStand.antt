@@ -15,7 +15,6 @@ use Rattle.rules.specs.Instant.{State, dueNow, word, written, outWords}
 use Rattle.rules.proofs.Checks.{few-nodes, fields-of, end-node}
 use Rattle.rules.proofs.LongerLists.{tab-more, joined-more}
 use Rattle.rules.proofs.ListLaws.{by-test}
-use Rattle.rules.proofs.Sound.{Sound}
 use Rattle.rules.proofs.Arrivals.{Faultless, none-arrives}
 use Rattle.steps.specs.Rings.{Shape, Cells}
 use Rattle.steps.specs.Writes.{wordsBelow, Gathered}
@@ -59,13 +58,12 @@ pub words-stand :
     → Obeys net
     → Faultless net arrivals
     → t < 2 ^ 24
-    → Sound net t st
     → Wired net s w v
     → Represents net s t st x p
     → Gathered (length (net .channels)) t (v .followOut) (v .firstOut) (v .writer) (p .due) (p .value) words count
     → take count words ≡ outWords net arrivals t st
 unfolding outWords
-words-stand net arrivals t st s w v x p words count obeys faultless early sound wired rep gathered =
+words-stand net arrivals t st s w v x p words count obeys faultless early wired rep gathered =
     gathered .gathers (λ c. isOut (channelOf net c)) (wired .outs)
     ∙ words-joined t (v .writer) (p .due) (p .value) (λ c. isOut (channelOf net c)) _ (length (net .channels))
     (words-by-rules net arrivals t st s w v x p obeys faultless early wired rep)

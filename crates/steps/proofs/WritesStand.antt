@@ -94,6 +94,6 @@ pub writes-stand :
     → WritesStand net arrivals t st s z (min f g)
 writes-stand net arrivals t st s w v x y z p from next f g obeys faultless early sound wired rep cursor due arrived =
     stand net arrivals t st s w v x y z p from next f g obeys faultless early sound wired rep cursor arrived
-    (wrote-then s x y z (dueTo net t p) (valuesOn arrivals from (next - from)) f g (rep .rings)
+    (wrote-then s x y z (dueTo net t p) (valuesOn arrivals from (next - from)) f g
     (due .wrote (writesTo net) (λ n below. rw (wired .channels) (wired .walks n below)))
     (arrived .wrote))

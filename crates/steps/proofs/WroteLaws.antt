@@ -93,8 +93,8 @@ wrote-none s x rings =
       lowestFull = sym (lowest-none (s .channels) _ (λ c h. over-none s x c rings h));
     }
 
-pub wrote-then : (s : Shape) (x y z : Cells) (new more : ℕ → List ℕ) (f g : ℕ) → Rings s x → Wrote s x new y f → Wrote s y more z g → Wrote s x (λ c. new c ++ more c) z (min f g)
-wrote-then s x y z new more f g rings a b =
+pub wrote-then : (s : Shape) (x y z : Cells) (new more : ℕ → List ℕ) (f g : ℕ) → Wrote s x new y f → Wrote s y more z g → Wrote s x (λ c. new c ++ more c) z (min f g)
+wrote-then s x y z new more f g a b =
     record {
       rings = b .rings;
       heads = b .heads ∙ a .heads;

@@ -15,7 +15,7 @@ ghost use Rattle.steps.specs.Steps.{Able, OnChannels, Before, Written, S
 ghost use Rattle.rules.specs.Network.{Network as Rules};
 ghost use Rattle.rules.specs.Instant.{State};
 ghost use Rattle.steps.specs.Taking.{oldestOf, madeSays, portOf, Ported, found};
-ghost use Rattle.steps.specs.Nodes.{waitingBy, wires, pendings, soonest, Sized, Readable, Separate, Released, Turned, ReadBelow};
+ghost use Rattle.steps.specs.Nodes.{waitingBy, wires, pendings, pendingAt, soonest, Sized, Readable, Separate, Released, Turned, ReadBelow};
 
 // Later than any instant: a node with nothing waiting is due then.
 pub const NEVER: u32 = 4294967295;
@@ -601,6 +601,51 @@ fn release(
     state.skipped(period)
 }
 
+// Node `n`'s turn to read at its next release, where `state` is its state before it. Answers as `turn` does.
+fn turn_released(
+    channels: usize,
+    kind: &[u32; 32],
+    constant: &[u32; 32],
+    period: &[u32; 32],
+    deadline: &[u32; 32],
+    state: Pending,
+    sort: &[u32; 64],
+    base: &[usize; 64],
+    capacity: &[usize; 64],
+    head: &mut [usize; 64],
+    len: &mut [usize; 64],
+    tokens: &[u32; 1024],
+    input: &[usize; 128],
+    next: &mut [u32; 32],
+    due: &mut [u32; 32],
+    value: &mut [u32; 32],
+    n: usize,
+) -> u32
+    requires { ⌜ Rings (shape channels (now sort) (now base) (now capacity)) (cells (now head) (now len) (now tokens)) × (n < 32) × (state .next < 2 ^ 24) × (state ≡ pendingAt (pendings (now next) (now due) (now value)) n) × Readable channels (wires (now kind) (now constant) (now period) (now deadline) (now input)) n × Sized (pendings (now next) (now due) (now value)) ⌝ }
+    ensures { λ r. ⌜ Turned (wires (now (kind .entry)) (now (constant .entry)) (now (period .entry)) (now (deadline .entry)) (now (input .entry))) (shape channels (now (sort .entry)) (now (base .entry)) (now (capacity .entry))) (cells (now (head .entry)) (now (len .entry)) (now (tokens .entry))) (pendings (now (next .entry)) (now (due .entry)) (now (value .entry))) (state .next) n (cells (now (head .exit)) (now (len .exit)) (now (tokens .entry))) (pendings (now (next .exit)) (now (due .exit)) (now (value .exit))) r ⌝ }
+{
+    let after = release(
+        channels,
+        kind[n],
+        constant[n],
+        period[n],
+        deadline[n],
+        state,
+        sort,
+        base,
+        capacity,
+        head,
+        len,
+        tokens,
+        input,
+        n,
+    );
+    next[n] = after.next;
+    due[n] = after.due;
+    value[n] = after.value;
+    after.soon()
+}
+
 // Node `n`'s turn to read. Answers the earlier of its next release and its due instant.
 fn turn(
     channels: usize,
@@ -634,12 +679,12 @@ fn turn(
         return soon;
     }
     if state.next == t {
-        let after = release(
+        return turn_released(
             channels,
-            kind[n],
-            constant[n],
-            period[n],
-            deadline[n],
+            kind,
+            constant,
+            period,
+            deadline,
             state,
             sort,
             base,
@@ -648,19 +693,18 @@ fn turn(
             len,
             tokens,
             input,
+            next,
+            due,
+            value,
             n,
         );
-        next[n] = after.next;
-        due[n] = after.due;
-        value[n] = after.value;
-        return after.soon();
     }
     if state.due == t {
         let after = state.written();
         due[n] = after.due;
         return after.soon();
     }
-    state.soon()
+    soon
 }
 
 // The reads. Answers the earliest instant at which a node is then released or due, or `from` if that is earlier.
@@ -804,23 +848,23 @@ fn finish(
     }
 }
 
-// One instant: the writes, the overfull check, the words and the reads.
-pub fn instant(
+// One instant: the writes, the overfull check, the words and the reads. What stays over a run is lent together, for one lifetime.
+pub fn instant<'a>(
     channels: usize,
     nodes: usize,
-    kind: &[u32; 32],
-    constant: &[u32; 32],
-    period: &[u32; 32],
-    deadline: &[u32; 32],
-    sort: &[u32; 64],
-    base: &[usize; 64],
-    capacity: &[usize; 64],
-    writer: &[usize; 64],
-    input: &[usize; 128],
-    first: &[usize; 32],
-    follow: &[usize; 64],
+    kind: &'a [u32; 32],
+    constant: &'a [u32; 32],
+    period: &'a [u32; 32],
+    deadline: &'a [u32; 32],
+    sort: &'a [u32; 64],
+    base: &'a [usize; 64],
+    capacity: &'a [usize; 64],
+    writer: &'a [usize; 64],
+    input: &'a [usize; 128],
+    first: &'a [usize; 32],
+    follow: &'a [usize; 64],
     out: usize,
-    outs: &[usize; 64],
+    outs: &'a [usize; 64],
     head: &mut [usize; 64],
     len: &mut [usize; 64],
     tokens: &mut [u32; 1024],

@@ -16,9 +16,9 @@ enum-told c = search needs
 
 run-taken-requires : tie.Need-run-taken-requires
 run-taken-requires c κs =
-    let got = c .before .before .before .before in
+    let got = c .before .before .before in
     let s = got .before .before .before .before .args .table .now in
-    table-taken s (got .read .ensures) (c .before .before .enum-told .given .1) .lawful
+    table-taken s (got .read .ensures) (c .before .enum-told .given .1) .lawful
 
 returns : tie.Need-returns
 returns c =
@@ -31,12 +31,12 @@ same-length c = search needs
 
 returns-2 : tie.Need-returns-2
 returns-2 c =
-    let got = c .before .before .before .before .before .before .before in
+    let got = c .before .before .before .before .before .before in
     let given = got .before .before .before .before .args in
     let s = given .table .now in
-    let taken = table-taken s (got .read .ensures) (c .before .before .before .before .before .enum-told .given .1) in
+    let taken = table-taken s (got .read .ensures) (c .before .before .before .before .enum-told .given .1) in
     let lawful = taken .lawful in
-    run-as-read s (got .read .ensures) (given .horizon) (given .arrivals .now) (given .list .now) taken (c .before .before .run-taken .ensures (lawful .net) (lawful .obeys) (lawful .from))
+    run-as-read s taken (given .horizon) (given .arrivals .now) (given .list .now) (c .before .before .run-taken .ensures (lawful .net) (lawful .obeys) (lawful .from))
 
 pub run-spec : {M : Type 1} → statement M
 run-spec =

@@ -17,7 +17,7 @@ abbrev μ-loop : tie.MeasureT-loop
 μ-loop channels follow sort base capacity head len₀ tokens₀ first v full₀ c₀ len tokens full c = 64 - c
 
 loop-holds : tie.Need-loop-holds Inv-loop μ-loop
-loop-holds c = walk-starts (c .pre .0) (c .pre .1)
+loop-holds c = walk-starts (c .pre .1) (c .pre .0)
 
 put-requires : tie.Need-put-requires Inv-loop μ-loop
 put-requires c κs = (c .before .before .before .loop .inv .rings, c .before .before .before .loop .inv .inside (c .before .before .loop-test .taken))
@@ -39,11 +39,10 @@ loop-less c =
 loop-again : tie.Need-loop-again Inv-loop μ-loop
 loop-again c =
     let at = c .before .before .before .before .before in
-    let start = at .before .before in
-    walk-turn (start .pre .0) (start .pre .1) (at .loop-test .taken) (c .before .least .ensures) (at .before .loop .inv) (c .before .before .put .ensures)
+    walk-turn (at .before .before .pre .1) (at .loop-test .taken) (c .before .least .ensures) (at .before .loop .inv) (c .before .before .put .ensures)
 
 returns : tie.Need-returns Inv-loop μ-loop
-returns c = walk-ends (c .before .before .pre .0) (c .before .before .pre .1) (c .loop-test .left) (c .before .loop .inv)
+returns c = walk-ends (c .before .before .pre .1) (c .loop-test .left) (c .before .loop .inv)
 
 pub put-all-spec : {M : Type 1} → statement M
 put-all-spec =

@@ -48,7 +48,7 @@ least-requires c κs = search needs
 returns : tie.Need-returns Inv-loop μ-loop
 returns c =
     let at = c .before .before .before in
-    stamps-stop (at .before .before .before .pre .0) (λ h same. c .if1 .left (c .before .time-in .ensures ∙ same)) (at .before .loop .inv)
+    stamps-stop (λ h same. c .if1 .left (c .before .time-in .ensures ∙ same)) (at .before .loop .inv)
 
 add-i : tie.Need-add-i Inv-loop μ-loop
 add-i c = search needs
@@ -60,10 +60,10 @@ loop-again : tie.Need-loop-again Inv-loop μ-loop
 loop-again c =
     let at = c .before .before .before .before .before .before .before .before .before in
     let test = c .before .before .before .before .before .before in
-    stamp-turn (at .before .before .before .pre .0) (at .loop-test .taken) (sym (test .before .time-in .ensures) ∙ test .if1 .taken) (c .before .before .before .channel-in .ensures) (c .before .before .value-in .ensures) (c .least .ensures) (at .before .loop .inv) (c .before .put .ensures)
+    stamp-turn (at .loop-test .taken) (sym (test .before .time-in .ensures) ∙ test .if1 .taken) (c .before .before .before .channel-in .ensures) (c .before .before .value-in .ensures) (c .least .ensures) (at .before .loop .inv) (c .before .put .ensures)
 
 returns-2 : tie.Need-returns-2 Inv-loop μ-loop
-returns-2 c = stamps-stop (c .before .before .before .pre .0) (λ h same. absurd (omega arith)) (c .before .loop .inv)
+returns-2 c = stamps-stop (λ h same. absurd (omega arith)) (c .before .loop .inv)
 
 pub write-arrivals-spec : {M : Type 1} → statement M
 write-arrivals-spec =

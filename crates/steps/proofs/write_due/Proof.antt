@@ -55,12 +55,11 @@ loop-less c = search needs
 
 loop-again : tie.Need-loop-again Inv-loop μ-loop
 loop-again c =
-    let at = c .before .before in
-    let rings = at .before .before .pre .0 in (
+    let at = c .before .before in (
       omega arith,
       ⊎-elim
-          (λ w. rw (w .7, w .8, w .9) (due-turn rings (w .0 .taken) (w .6 .ensures) (at .before .loop .inv .1) (w .5 .ensures)))
-          (λ w. rw (w .1, w .2, w .3) (due-skip rings (w .0 .left) (at .before .loop .inv .1))) (c .if1 .came),
+          (λ w. rw (w .7, w .8, w .9) (due-turn (w .0 .taken) (w .6 .ensures) (at .before .loop .inv .1) (w .5 .ensures)))
+          (λ w. rw (w .1, w .2, w .3) (due-skip (w .0 .left) (at .before .loop .inv .1))) (c .if1 .came),
     )
 
 returns : tie.Need-returns Inv-loop μ-loop
