@@ -2,8 +2,6 @@
 -- is what a caller learns from the contract in the source. Assumes nothing.
 use mathlib.Core.List.{[]}
 use mathlib.Core.Path.{_≡_, refl, _∙⁻¹_, Σ-path}
-use Rattle.rules.specs.declared.Node.{Node}
-use Rattle.rules.specs.declared.Channel.{Channel}
 use Rattle.rules.specs.declared.Refusal.{Refusal}
 use Rattle.rules.specs.Table as rules
 use Rattle.rules.specs.Table.{Reading, refusal, read}
@@ -46,9 +44,6 @@ number-of κs args o p e f = Σ-path (e ∙⁻¹ f) refl
 
 pub place-of : Settled calls.place_of.ended calls.place_of.Reads.Learnt
 place-of κs args o p e f = Σ-path (e ∙⁻¹ f) refl
-
-pub both : Settled calls.both.ended calls.both.Reads.Learnt
-both κs args o p e f = Σ-path (e ∙⁻¹ f) refl
 
 pub read-header : Settled calls.read_header.ended calls.read_header.Reads.Learnt
 read-header κs args o p e f = Σ-path (same header-says-once e f) refl

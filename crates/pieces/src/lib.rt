@@ -1,6 +1,5 @@
 // The header, a node and a channel's 29 bits: each piece is read whole and then checked.
 ghost use mathlib.Core.Path.{_≡_};
-ghost use mathlib.Core.Bool.{_&&_, _||_};
 ghost use Prim.Native.Nat.{_+_, _*_, _≤_, _<_};
 ghost use lib.ListN.{length};
 ghost use Rattle.rules.specs.Kinds.{constantOk};
@@ -66,32 +65,12 @@ pub fn place_of(why: Refusal) -> usize
     }
 }
 
-// Both tests pass.
-pub fn both(a: bool, b: bool) -> bool
-    ensures { λ r. ⌜ r ≡ (a && b) ⌝ }
-{
-    if a {
-        return b;
-    }
-    false
-}
-
-// One of the tests passes.
-fn either(a: bool, b: bool) -> bool
-    ensures { λ r. ⌜ r ≡ (a || b) ⌝ }
-{
-    if a {
-        return true;
-    }
-    b
-}
-
 // ---- The header
 
 fn counts_ok(nodes: usize, channels: usize) -> bool
     ensures { λ r. ⌜ r ≡ countsOk nodes channels ⌝ }
 {
-    both(both(1 <= nodes, nodes <= 32), channels <= 64)
+    (1 <= nodes) & (nodes <= 32) & (channels <= 64)
 }
 
 pub fn read_header(s: &[u8]) -> Header
@@ -101,10 +80,9 @@ pub fn read_header(s: &[u8]) -> Header
         if fields::field(s, 0, 4) == 1 {
             let nodes = fields::wide(fields::field(s, 4, 6));
             let channels = fields::wide(fields::field(s, 10, 7));
-            if counts_ok(nodes, channels) {
-                if fields::field(s, 17, 7) == 0 {
-                    return Header::Counts { nodes, channels };
-                }
+            let spare = fields::field(s, 17, 7);
+            if counts_ok(nodes, channels) & (spare == 0) {
+                return Header::Counts { nodes, channels };
             }
             return Header::Refused(Refusal::Counts);
         }
@@ -119,10 +97,7 @@ pub fn read_header(s: &[u8]) -> Header
 fn constant_ok(kind: u32, constant: i32) -> bool
     ensures { λ r. ⌜ r ≡ constantOk kind constant ⌝ }
 {
-    if kind == 0 {
-        return true;
-    }
-    if kind == 2 {
+    if (kind == 0) | (kind == 2) {
         return true;
     }
     if kind == 7 {
@@ -134,12 +109,9 @@ fn constant_ok(kind: u32, constant: i32) -> bool
 fn node_ok(n: Node) -> bool
     ensures { λ r. ⌜ r ≡ nodeOk n ⌝ }
 {
-    let period = both(1 <= n.period, n.period <= 65535);
-    let deadline = both(1 <= n.deadline, n.deadline <= n.period);
-    both(
-        both(both(n.kind < 12, period), deadline),
-        constant_ok(n.kind, n.constant),
-    )
+    let period = (1 <= n.period) & (n.period <= 65535);
+    let deadline = (1 <= n.deadline) & (n.deadline <= n.period);
+    (n.kind < 12) & period & deadline & constant_ok(n.kind, n.constant)
 }
 
 fn node_at(s: &[u8], at: usize) -> Node
@@ -179,31 +151,19 @@ pub fn node_piece(s: &[u8], n: usize) -> NodeRead
 fn end_ok(nodes: usize, n: u32) -> bool
     ensures { λ r. ⌜ r ≡ endOk nodes n ⌝ }
 {
-    either(fields::wide(n) < nodes, n == 63)
+    (fields::wide(n) < nodes) | (n == 63)
 }
 
 fn channel_ok(nodes: usize, ch: Channel) -> bool
     ensures { λ r. ⌜ r ≡ channelOk nodes ch ⌝ }
 {
-    let ends = both(end_ok(nodes, ch.writer), end_ok(nodes, ch.reader));
-    let capacity = both(1 <= ch.capacity, ch.capacity <= 64);
-    let register = either(ch.sort != 1, both(ch.capacity == 1, ch.initial == 1));
-    let held = both(
-        both(both(ch.sort != 1, ch.port == 0), ch.capacity == 1),
-        ch.initial == 0,
-    );
-    let out = either(ch.reader != 63, held);
-    let through = both(ch.writer == 63, ch.reader == 63);
-    both(
-        both(
-            both(
-                both(both(ends, capacity), ch.initial <= ch.capacity),
-                register,
-            ),
-            out,
-        ),
-        !through,
-    )
+    let ends = end_ok(nodes, ch.writer) & end_ok(nodes, ch.reader);
+    let capacity = (1 <= ch.capacity) & (ch.capacity <= 64);
+    let register = (ch.sort != 1) | ((ch.capacity == 1) & (ch.initial == 1));
+    let held = (ch.sort != 1) & (ch.port == 0) & (ch.capacity == 1) & (ch.initial == 0);
+    let out = (ch.reader != 63) | held;
+    let through = (ch.writer == 63) & (ch.reader == 63);
+    ends & capacity & (ch.initial <= ch.capacity) & register & out & !through
 }
 
 fn channel_at(s: &[u8], at: usize) -> Channel

@@ -39,7 +39,18 @@ field-requires-6 c κs = search needs
 
 returns : tie.Need-returns
 unfolding channelAt
-returns c = cc
+returns c =
+    let port = c .before .before in
+    let writer = port .before .before in
+    λ i.
+    record {
+      sort = writer .before .field .ensures i;
+      writer = writer .field2 .ensures i;
+      reader = port .before .field3 .ensures i;
+      port = port .field4 .ensures i;
+      capacity = c .before .field5 .ensures i;
+      initial = c .field6 .ensures i;
+    }
 
 pub channel-at-spec : {M : Type 1} → statement M
 channel-at-spec =

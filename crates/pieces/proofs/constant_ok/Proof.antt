@@ -12,20 +12,15 @@ returns c = rw (c .if1 .taken)
 
 returns-2 : tie.Need-returns-2
 unfolding constantOk
-returns-2 c = rw (c .if2 .taken)
+returns-2 c =
+    let start = c .before .before in
+    rw (c .if2 .taken, zero-by-bits (start .args .constant) (start .fits .constant))
 
 returns-3 : tie.Need-returns-3
 unfolding constantOk
 returns-3 c =
-    let start = c .before .before .before in
-    rw (c .if3 .taken, zero-by-bits (start .args .constant) (start .fits .constant))
-
-returns-4 : tie.Need-returns-4
-unfolding constantOk
-returns-4 c =
-    let start = c .before .before .before in
-    rw
-    (ne-eqb (start .args .kind) 0 (c .before .before .if1 .left), ne-eqb (start .args .kind) 2 (c .before .if2 .left), ne-eqb (start .args .kind) 7 (c .if3 .left), zero-by-bits (start .args .constant) (start .fits .constant))
+    let start = c .before .before in
+    rw (c .before .if1 .left, ne-eqb (start .args .kind) 7 (c .if2 .left), zero-by-bits (start .args .constant) (start .fits .constant))
 
 pub constant-ok-spec : {M : Type 1} → statement M
-constant-ok-spec = tie.close (tie.spec returns returns-2 returns-3 returns-4)
+constant-ok-spec = tie.close (tie.spec returns returns-2 returns-3)

@@ -1,7 +1,9 @@
 -- `pieces::node_at` meets its contract: the fields are those of the definition, and the constant fits 32 bits, so that what its bits give
 -- back is the constant. Assumes nothing.
+use mathlib.Core.Path.{_∙_, ap}
 use mir.Syntax.{w32}
 use mir.ValLaws.{toZ-ofZ}
+use Rattle.rules.specs.Kinds.{signed}
 use Rattle.rules.specs.Table.{nodeAt}
 use borrow.Author.Needs.{needs, sfits-of}
 use Rattle.pieces.proofs.node_at.Statement.{statement}
@@ -33,7 +35,17 @@ signed-requires c κs = search needs
 
 returns : tie.Need-returns
 unfolding nodeAt
-returns c = rw (toZ-ofZ w32 (c .signed .result) (sfits-of (c .signed .ok))) (cc)
+returns c =
+    let constant = c .before in
+    let deadline = constant .before in
+    let same = toZ-ofZ w32 (c .signed .result) (sfits-of (c .signed .ok)) in
+    λ i.
+    record {
+      kind = deadline .before .before .field .ensures i;
+      period = deadline .before .field2 .ensures i;
+      deadline = deadline .field3 .ensures i;
+      constant = (same ∙ c .signed .ensures ∙ ap signed (constant .field4 .ensures)) i;
+    }
 
 pub node-at-spec : {M : Type 1} → statement M
 node-at-spec =

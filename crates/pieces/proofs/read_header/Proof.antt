@@ -6,7 +6,7 @@ use mathlib.Core.Bool.{_&&_}
 use mathlib.Core.Path.{_≡_}
 use lib.Dec.{eqb}
 use lib.ListN.{length}
-use Rattle.rules.specs.Table.{fieldAt, unless, headerAt}
+use Rattle.rules.specs.Table.{unless, headerAt}
 use Rattle.pieces.proofs.Tests.{bits-there}
 use borrow.Author.Needs.{needs}
 use borrow.Author.Tests.{ne-eqb}
@@ -34,42 +34,38 @@ field-requires-3 c κs = omega (arith, header-there (c .before .before .before .
 wide-requires-2 : tie.Need-wide-requires-2
 wide-requires-2 c κs = search needs
 
+field-requires-4 : tie.Need-field-requires-4
+field-requires-4 c κs = omega (arith, header-there (c .before .before .before .before .before .before))
+
 counts-ok-requires : tie.Need-counts-ok-requires
 counts-ok-requires c κs = search needs
 
-field-requires-4 : tie.Need-field-requires-4
-field-requires-4 c κs = omega (arith, header-there (c .before .before .before .before .before .before .before .before))
-
--- the header by the test of its counts
+-- the header by the test of its counts and its spare bits
 by-counts : (c : tie.After-counts-ok) →
-    let s = c .before .before .before .before .before .before .before .before .before .before .args .s .now in
-    headerAt s ≡ unless (c .counts-ok .result && eqb (fieldAt s 17 7) 0) 3 0 (record { nodes = c .before .before .before .wide .result; channels = c .before .wide2 .result })
+    let spare = c .before in
+    headerAt (spare .before .before .before .before .before .before .before .before .before .before .args .s .now) ≡ unless (c .counts-ok .result && eqb (spare .field4 .result) 0) 3 0 (record { nodes = spare .before .before .before .wide .result; channels = spare .before .wide2 .result })
 unfolding headerAt
 by-counts c =
-    let wide = c .before .before .before in
+    let spare = c .before in
+    let wide = spare .before .before .before in
     let version = wide .before .before in
     rw
-    (← version .before .before .before .there .ensures, version .before .before .if1 .taken, ← version .before .field .ensures, version .if2 .taken, ← wide .before .field2 .ensures, ← wide .wide .ensures, ← c .before .before .field3 .ensures, ← c .before .wide2 .ensures, ← c .counts-ok .ensures)
+    (← version .before .before .before .there .ensures, version .before .before .if1 .taken, ← version .before .field .ensures, version .if2 .taken, ← wide .before .field2 .ensures, ← wide .wide .ensures, ← spare .before .before .field3 .ensures, ← spare .before .wide2 .ensures, ← spare .field4 .ensures, ← c .counts-ok .ensures)
 
 returns : tie.Need-returns
-returns c =
-    rw (by-counts (c .before .before .before), c .before .before .if3 .taken, ← c .before .field4 .ensures, c .if4 .taken)
+returns c = rw (by-counts (c .before), c .if3 .taken)
 
 returns-2 : tie.Need-returns-2
-returns-2 c =
-    rw (by-counts (c .before .before .before), c .before .before .if3 .taken, ← c .before .field4 .ensures, ne-eqb (c .before .field4 .result) 0 (c .if4 .left))
+returns-2 c = rw (by-counts (c .before), c .if3 .left)
 
 returns-3 : tie.Need-returns-3
-returns-3 c = rw (by-counts (c .before), c .if3 .left)
+unfolding headerAt
+returns-3 c =
+    rw (← c .before .before .before .there .ensures, c .before .before .if1 .taken, ← c .before .field .ensures, ne-eqb (c .before .field .result) 1 (c .if2 .left))
 
 returns-4 : tie.Need-returns-4
 unfolding headerAt
-returns-4 c =
-    rw (← c .before .before .before .there .ensures, c .before .before .if1 .taken, ← c .before .field .ensures, ne-eqb (c .before .field .result) 1 (c .if2 .left))
-
-returns-5 : tie.Need-returns-5
-unfolding headerAt
-returns-5 c = rw (← c .before .there .ensures, c .if1 .left)
+returns-4 c = rw (← c .before .there .ensures, c .if1 .left)
 
 pub read-header-spec : {M : Type 1} → statement M
 read-header-spec =
@@ -81,10 +77,9 @@ read-header-spec =
     wide-requires
     field-requires-3
     wide-requires-2
-    counts-ok-requires
     field-requires-4
+    counts-ok-requires
     returns
     returns-2
     returns-3
-    returns-4
-    returns-5)
+    returns-4)

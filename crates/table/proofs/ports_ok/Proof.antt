@@ -10,34 +10,18 @@ port-ok-requires c κs = search needs
 port-ok-requires-2 : tie.Need-port-ok-requires-2
 port-ok-requires-2 c κs = search needs
 
-both-requires : tie.Need-both-requires
-both-requires c κs = search needs
-
 port-ok-requires-3 : tie.Need-port-ok-requires-3
 port-ok-requires-3 c κs = search needs
-
-both-requires-2 : tie.Need-both-requires-2
-both-requires-2 c κs = search needs
 
 port-ok-requires-4 : tie.Need-port-ok-requires-4
 port-ok-requires-4 c κs = search needs
 
-both-requires-3 : tie.Need-both-requires-3
-both-requires-3 c κs = search needs
-
 returns : tie.Need-returns
 unfolding every
-returns c = cc
+returns c =
+    let second = c .before .before in
+    rw (second .before .port-ok .ensures, second .port-ok2 .ensures, c .before .port-ok3 .ensures, c .port-ok4 .ensures)
 
 pub ports-ok-spec : {M : Type 1} → statement M
 ports-ok-spec =
-    tie.close
-    (tie.spec
-    port-ok-requires
-    port-ok-requires-2
-    both-requires
-    port-ok-requires-3
-    both-requires-2
-    port-ok-requires-4
-    both-requires-3
-    returns)
+    tie.close (tie.spec port-ok-requires port-ok-requires-2 port-ok-requires-3 port-ok-requires-4 returns)
