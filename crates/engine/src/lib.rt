@@ -179,16 +179,23 @@ fn prepared(network: Network) -> Machine
 {
     let nodes = network.nodes;
     let channels = network.channels;
+    let node = network.node;
+    let channel = network.channel;
+    let readers = channel.reader;
     let mut reader = [0usize; 64];
-    widened(&network.channel.reader, &mut reader);
+    widened(&readers, &mut reader);
+    let ports = channel.port;
     let mut port = [0usize; 64];
-    widened(&network.channel.port, &mut port);
+    widened(&ports, &mut port);
+    let writers = channel.writer;
     let mut writer = [0usize; 64];
-    widened(&network.channel.writer, &mut writer);
+    widened(&writers, &mut writer);
+    let capacities = channel.capacity;
     let mut capacity = [0usize; 64];
-    widened(&network.channel.capacity, &mut capacity);
+    widened(&capacities, &mut capacity);
+    let initial = channel.initial;
     let mut len = [0usize; 64];
-    widened(&network.channel.initial, &mut len);
+    widened(&initial, &mut len);
     let mut base = [0usize; 64];
     bases(&capacity, channels, &mut base);
     let mut input = [0usize; 128];
@@ -198,12 +205,12 @@ fn prepared(network: Network) -> Machine
     walks(&writer, &reader, channels, &mut first, &mut follow);
     let mut outs = [64usize; 64];
     let out = walk_out(&reader, channels, &mut outs);
-    let kind = network.node.kind;
-    let constant = network.node.constant;
-    let period = network.node.period;
-    let deadline = network.node.deadline;
-    let sort = network.channel.sort;
-    let tokens = network.channel.tokens;
+    let kind = node.kind;
+    let constant = node.constant;
+    let period = node.period;
+    let deadline = node.deadline;
+    let sort = channel.sort;
+    let tokens = channel.tokens;
     Machine {
         nodes,
         channels,
@@ -230,6 +237,21 @@ fn run_machine(m: Machine, horizon: u32, arrivals: &[u64], list: &mut [u64]) -> 
     requires { ⌜ (horizon < 2 ^ 24) × Startable m (now arrivals) ⌝ }
     ensures { λ r. ⌜ ((net : Rules) → Obeys net → Faultless net (now (arrivals .entry)) → Starts net m → RunOf (outcome (reached net (now (arrivals .entry)) (length (now (list .entry))) (suc horizon))) (now (list .entry)) (now (list .exit)) r) ⌝ }
 {
+    let nodes = m.nodes;
+    let channels = m.channels;
+    let kind = m.kind;
+    let constant = m.constant;
+    let period = m.period;
+    let deadline = m.deadline;
+    let sort = m.sort;
+    let base = m.base;
+    let capacity = m.capacity;
+    let writer = m.writer;
+    let input = m.input;
+    let first = m.first;
+    let follow = m.follow;
+    let out = m.out;
+    let outs = m.outs;
     let mut head = [0usize; 64];
     let mut len = m.len;
     let mut tokens = m.tokens;
@@ -242,21 +264,21 @@ fn run_machine(m: Machine, horizon: u32, arrivals: &[u64], list: &mut [u64]) -> 
     let mut count = 0;
     while t <= horizon {
         let step = steps::instant(
-            m.channels,
-            m.nodes,
-            &m.kind,
-            &m.constant,
-            &m.period,
-            &m.deadline,
-            &m.sort,
-            &m.base,
-            &m.capacity,
-            &m.writer,
-            &m.input,
-            &m.first,
-            &m.follow,
-            m.out,
-            &m.outs,
+            channels,
+            nodes,
+            &kind,
+            &constant,
+            &period,
+            &deadline,
+            &sort,
+            &base,
+            &capacity,
+            &writer,
+            &input,
+            &first,
+            &follow,
+            out,
+            &outs,
             &mut head,
             &mut len,
             &mut tokens,
@@ -307,7 +329,9 @@ fn run_taken(network: Network, horizon: usize, arrivals: &[u64], list: &mut [u64
         return Ran::Refused(Refusal::Horizon);
     }
     let m = prepared(network);
-    let faulty = faulty_arrival(arrivals, m.channels, &m.writer);
+    let channels = m.channels;
+    let writer = m.writer;
+    let faulty = faulty_arrival(arrivals, channels, &writer);
     if faulty < arrivals.len() {
         return Ran::Refused(Refusal::Arrival(faulty));
     }

@@ -17,26 +17,26 @@ widened-requires-3 : tie.Need-widened-requires-3
 widened-requires-3 c κs = search needs
 
 widened-requires-4 : tie.Need-widened-requires-4
-widened-requires-4 c κs = (lawful-fits (c .before .before .before .before .before .before .before .before .before .before .before .before .before .before .before .pre) .capacities, refl)
+widened-requires-4 c κs = (lawful-fits (c .before .before .before .before .before .before .before .before .before .before .before .before .before .before .before .before .before .pre) .capacities, refl)
 
 widened-requires-5 : tie.Need-widened-requires-5
-widened-requires-5 c κs = (lawful-fits (c .before .before .before .before .before .before .before .before .before .before .before .before .before .before .before .before .before .before .before .pre) .initial, refl)
+widened-requires-5 c κs = (lawful-fits (c .before .before .before .before .before .before .before .before .before .before .before .before .before .before .before .before .before .before .before .before .before .pre) .initial, refl)
 
 bases-requires : tie.Need-bases-requires
 bases-requires c κs =
-    let fits = lawful-fits (c .before .before .before .before .before .before .before .before .before .before .before .before .before .before .before .before .before .before .before .before .before .before .pre) in
+    let fits = lawful-fits (c .before .before .before .before .before .before .before .before .before .before .before .before .before .before .before .before .before .before .before .before .before .before .before .before .pre) in
     (fits .few, refl, rw (c .before .before .before .before .before .before .widened4 .ensures) (fits .together))
 
 inputs-requires : tie.Need-inputs-requires
 inputs-requires c κs =
-    let fits = lawful-fits (c .before .before .before .before .before .before .before .before .before .before .before .before .before .before .before .before .before .before .before .before .before .before .before .before .before .before .pre) in
+    let fits = lawful-fits (c .before .before .before .before .before .before .before .before .before .before .before .before .before .before .before .before .before .before .before .before .before .before .before .before .before .before .before .before .pre) in
     (fits .few, refl, λ channel h. rw (c .before .before .before .before .before .before .before .before .before .before .before .before .before .before .before .before .before .before .widened2 .ensures) (fits .ports channel h))
 
 walks-requires : tie.Need-walks-requires
-walks-requires c κs = (lawful-fits (c .before .before .before .before .before .before .before .before .before .before .before .before .before .before .before .before .before .before .before .before .before .before .before .before .before .before .before .before .before .before .before .pre) .few, refl, refl)
+walks-requires c κs = (lawful-fits (c .before .before .before .before .before .before .before .before .before .before .before .before .before .before .before .before .before .before .before .before .before .before .before .before .before .before .before .before .before .before .before .before .before .pre) .few, refl, refl)
 
 walk-out-requires : tie.Need-walk-out-requires
-walk-out-requires c κs = (lawful-fits (c .before .before .before .before .before .before .before .before .before .before .before .before .before .before .before .before .before .before .before .before .before .before .before .before .before .before .before .before .before .before .before .before .before .before .pre) .few, refl)
+walk-out-requires c κs = (lawful-fits (c .before .before .before .before .before .before .before .before .before .before .before .before .before .before .before .before .before .before .before .before .before .before .before .before .before .before .before .before .before .before .before .before .before .before .before .before .pre) .few, refl)
 
 returns : tie.Need-returns
 returns c =

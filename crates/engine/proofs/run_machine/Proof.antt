@@ -8,6 +8,7 @@ use native.Mathlib.Omega.{arith}
 use mathlib.Core.Path.{_≡_, refl, _∙_}
 use lib.ListN.{length}
 use Rattle.rules.specs.Network.{Network}
+use Rattle.engine.specs.declared.Machine.{Machine}
 use Rattle.steps.specs.Rings.{cells}
 use Rattle.steps.specs.Nodes.{pendings}
 use Rattle.engine.proofs.RunLaws.{Runs, Progress, startable-runs, progress-start, same-room, instant-can, run-ends}
@@ -17,20 +18,22 @@ use Rattle.engine.proofs.run_machine.Statement.{statement}
 use Rattle.engine.proofs.run_machine.Tie as tie
 
 abbrev Inv-loop : tie.InvT-loop
-Inv-loop horizon arrivals list₀ m head₀ len₀ tokens₀ next₀ due₀ value₀ words₀ t₀ from₀ count₀ list head len tokens next due value words t from count =
+Inv-loop horizon arrivals list₀ nodes channels kind constant period deadline sort base capacity writer input first follow out outs head₀ len₀ tokens₀ next₀ due₀ value₀ words₀ t₀ from₀ count₀ list head len tokens next due value words t from count =
+    let m : Machine = record { nodes = nodes; channels = channels; kind = kind; constant = constant; period = period; deadline = deadline; sort = sort; base = base; capacity = capacity; len = len₀; writer = writer; input = input; first = first; follow = follow; out = out; outs = outs; tokens = tokens₀ } in
     ((net : Network) → Runs net m horizon arrivals → Progress net m horizon arrivals list₀ list (cells head len tokens) (pendings next due value) t from count) × (length words ≡ 64)
 
 abbrev μ-loop : tie.MeasureT-loop
-μ-loop horizon arrivals list₀ m head₀ len₀ tokens₀ next₀ due₀ value₀ words₀ t₀ from₀ count₀ list head len tokens next due value words t from count =
+μ-loop horizon arrivals list₀ nodes channels kind constant period deadline sort base capacity writer input first follow out outs head₀ len₀ tokens₀ next₀ due₀ value₀ words₀ t₀ from₀ count₀ list head len tokens next due value words t from count =
     suc horizon - t
 
 loop-holds : tie.Need-loop-holds Inv-loop μ-loop
-loop-holds c = (λ net runs. progress-start (c .before .before .before .before .args .list .now) runs, refl)
+loop-holds c =
+    (λ net runs. progress-start (c .before .before .before .before .before .before .before .before .before .before .before .before .before .before .before .before .args .list .now) runs, refl)
 
 instant-requires : tie.Need-instant-requires Inv-loop μ-loop
 instant-requires c κs =
-    let turn = c .before .before .before .before .before .before .before .before .before .before .before .before .before .before .before .before .before .before .before .before .before in
-    let runs = startable-runs (turn .before .before .before .before .before .before .pre) in
+    let turn = c .before .before .before .before .before .before .before .before .before .before .before .before .before .before .before .before .before .before .before .before in
+    let runs = startable-runs (turn .before .before .before .before .before .before .before .before .before .before .before .before .before .before .before .before .before .before .pre) in
     instant-can (turn .before .loop .inv .0 _ runs) runs (turn .loop-test .taken) (turn .before .loop .words) (turn .before .loop .inv .1)
 
 enum-known-step : tie.Need-enum-known-step Inv-loop μ-loop
@@ -42,16 +45,16 @@ wide-requires c κs = search needs
 same-length : tie.Need-same-length Inv-loop μ-loop
 same-length c =
     let got = c .before .before .before .before .before in
-    let turn = got .before .before .before .before .before .before .before .before .before .before .before .before .before .before .before .before .before .before .before .before .before .before .before in
-    let runs = startable-runs (turn .before .before .before .before .before .before .pre) in
+    let turn = got .before .before .before .before .before .before .before .before .before .before .before .before .before .before .before .before .before .before .before .before .before .before in
+    let runs = startable-runs (turn .before .before .before .before .before .before .before .before .before .before .before .before .before .before .before .before .before .before .pre) in
     got .list .given ∙ same-room (turn .before .loop .inv .0 _ runs)
 
 returns : tie.Need-returns Inv-loop μ-loop
 returns c =
     let got = c .before .before .before .before .before .before in
-    let turn = got .before .before .before .before .before .before .before .before .before .before .before .before .before .before .before .before .before .before .before .before .before .before in
+    let turn = got .before .before .before .before .before .before .before .before .before .before .before .before .before .before .before .before .before .before .before .before .before in
     λ net obeys faultless starts.
-    let runs : Runs net _ _ _ = record { obeys = obeys; faultless = faultless; starts = starts; early = turn .before .before .before .before .before .before .pre .0 } in
+    let runs : Runs net _ _ _ = record { obeys = obeys; faultless = faultless; starts = starts; early = turn .before .before .before .before .before .before .before .before .before .before .before .before .before .before .before .before .before .before .pre .0 } in
     run-full runs (turn .before .loop .inv .0 net runs) (turn .loop-test .taken) _ _ _ _ (got .instant .ensures .0 net) (c .before .before .step .given .1) (c .wide .ensures)
 
 enum-told : tie.Need-enum-told Inv-loop μ-loop
@@ -63,16 +66,16 @@ wide-requires-2 c κs = search needs
 same-length-2 : tie.Need-same-length-2 Inv-loop μ-loop
 same-length-2 c =
     let got = c .before .before .before .before in
-    let turn = got .before .before .before .before .before .before .before .before .before .before .before .before .before .before .before .before .before .before .before .before .before .before .before in
-    let runs = startable-runs (turn .before .before .before .before .before .before .pre) in
+    let turn = got .before .before .before .before .before .before .before .before .before .before .before .before .before .before .before .before .before .before .before .before .before .before in
+    let runs = startable-runs (turn .before .before .before .before .before .before .before .before .before .before .before .before .before .before .before .before .before .before .pre) in
     got .list .given ∙ same-room (turn .before .loop .inv .0 _ runs)
 
 returns-2 : tie.Need-returns-2 Inv-loop μ-loop
 returns-2 c =
     let got = c .before .before .before .before .before in
-    let turn = got .before .before .before .before .before .before .before .before .before .before .before .before .before .before .before .before .before .before .before .before .before .before in
+    let turn = got .before .before .before .before .before .before .before .before .before .before .before .before .before .before .before .before .before .before .before .before .before in
     λ net obeys faultless starts.
-    let runs : Runs net _ _ _ = record { obeys = obeys; faultless = faultless; starts = starts; early = turn .before .before .before .before .before .before .pre .0 } in
+    let runs : Runs net _ _ _ = record { obeys = obeys; faultless = faultless; starts = starts; early = turn .before .before .before .before .before .before .before .before .before .before .before .before .before .before .before .before .before .before .pre .0 } in
     run-short runs (turn .before .loop .inv .0 net runs) (turn .loop-test .taken) _ _ _ _ (got .instant .ensures .0 net) (c .before .enum-told .given .1) (c .wide2 .ensures)
 
 enum-known-step-2 : tie.Need-enum-known-step-2 Inv-loop μ-loop
@@ -81,7 +84,7 @@ enum-known-step-2 c = search needs
 loop-again : tie.Need-loop-again Inv-loop μ-loop
 loop-again c =
     let got = c .before .before .before .before .before in
-    let turn = got .before .before .before .before .before .before .before .before .before .before .before .before .before .before .before .before .before .before .before .before .before .before in (
+    let turn = got .before .before .before .before .before .before .before .before .before .before .before .before .before .before .before .before .before .before .before .before .before in (
       λ net runs.
           progress-on runs (turn .before .loop .inv .0 net runs) (turn .loop-test .taken) _ _ _ _ (got .instant .ensures .0 net) (c .before .step2 .given .1),
       got .instant .ensures .1,
@@ -89,28 +92,28 @@ loop-again c =
 
 add-count : tie.Need-add-count Inv-loop μ-loop
 add-count c =
-    let at = c .before .before .before .before .before .before .before .before .before .before .before .before .before .before .before .before .before .before .before .before .before .before .before .before .before .before .before .before in
-    let start = at .before .before .before .before .before in
+    let at = c .before .before .before .before .before .before .before .before .before .before .before .before .before .before .before .before .before .before .before .before .before .before .before .before .before .before .before in
+    let start = at .before .before .before .before .before .before .before .before .before .before .before .before .before .before .before .before .before in
     let fits : at .loop .count + c .before .step2 .given .0 .0 ≤ length (start .args .list .now) = loop-again c .0 _ (startable-runs (start .pre)) .fits in
     omega arith
 
 loop-less : tie.Need-loop-less Inv-loop μ-loop
 loop-less c =
     let got = c .before .before .before .before .before in
-    let turn = got .before .before .before .before .before .before .before .before .before .before .before .before .before .before .before .before .before .before .before .before .before .before in
-    let runs = startable-runs (turn .before .before .before .before .before .before .pre) in
+    let turn = got .before .before .before .before .before .before .before .before .before .before .before .before .before .before .before .before .before .before .before .before .before in
+    let runs = startable-runs (turn .before .before .before .before .before .before .before .before .before .before .before .before .before .before .before .before .before .before .pre) in
     let later = moves-on runs (turn .before .loop .inv .0 _ runs) (turn .loop-test .taken) _ _ _ _ (got .instant .ensures .0 _) (c .before .step2 .given .1) in
     omega (arith, later, turn .loop-test .taken)
 
 same-length-3 : tie.Need-same-length-3 Inv-loop μ-loop
 same-length-3 c =
-    let runs = startable-runs (c .before .before .before .before .before .before .pre) in
+    let runs = startable-runs (c .before .before .before .before .before .before .before .before .before .before .before .before .before .before .before .before .before .before .pre) in
     same-room (c .before .loop .inv .0 _ runs)
 
 returns-3 : tie.Need-returns-3 Inv-loop μ-loop
 returns-3 c =
     λ net obeys faultless starts.
-    let runs : Runs net _ _ _ = record { obeys = obeys; faultless = faultless; starts = starts; early = c .before .before .before .before .before .before .pre .0 } in
+    let runs : Runs net _ _ _ = record { obeys = obeys; faultless = faultless; starts = starts; early = c .before .before .before .before .before .before .before .before .before .before .before .before .before .before .before .before .before .before .pre .0 } in
     run-ends (c .before .loop .inv .0 net runs) (c .loop-test .left)
 
 pub run-machine-spec : {M : Type 1} → statement M
