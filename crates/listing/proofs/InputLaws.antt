@@ -8,7 +8,7 @@ use mathlib.Core.Path.{_≡_, sym}
 use lib.Dec.{eqb, leb}
 use lib.ListN.{length, set, take}
 use lib.Seq.{take-suc-set}
-use borrow.Author.Tests.{leb-true, lt-leb, le-leb, eq-eqb, ne-eqb}
+use borrow.Author.Tests.{leb-true, lt-leb, le-leb}
 use Rattle.rules.specs.Lists.{tab}
 use Rattle.rules.specs.Table.{fieldAt}
 use Rattle.rules.specs.Refusals.{refused}
@@ -32,14 +32,10 @@ module _ (s : List ℕ) where
   unfolding framed
   cut-off h = simp (lt-leb (5 + tableLength s) (length s) h, and-false)
 
-  pub broken-arrival : (arrivalBytes s % 8 ≡ 0 → ⊥) → framed s ≡ false
+  pub by-arrivals : 2 ≤ length s → tableLength s ≤ 8191 → 5 + tableLength s ≤ length s → framed s ≡ (eqb (arrivalBytes s % 8) 0 && leb (arrivalBytes s / 8) 2048)
   unfolding framed
-  broken-arrival h = simp (ne-eqb (arrivalBytes s % 8) 0 h, and-false)
-
-  pub by-count : 2 ≤ length s → tableLength s ≤ 8191 → 5 + tableLength s ≤ length s → arrivalBytes s % 8 ≡ 0 → framed s ≡ leb (arrivalBytes s / 8) 2048
-  unfolding framed
-  by-count two long there whole =
-      rw (le-leb 2 (length s) two, le-leb (tableLength s) 8191 long, le-leb (5 + tableLength s) (length s) there, eq-eqb (arrivalBytes s % 8) 0 whole)
+  by-arrivals two long there =
+      rw (le-leb 2 (length s) two, le-leb (tableLength s) 8191 long, le-leb (5 + tableLength s) (length s) there)
 
   -- the listing of an input that is not well framed is the line of refusal 13
   pub unframed-listing : framed s ≡ false → listing s ≡ lastLine 0 (refused 13 0)

@@ -2,7 +2,7 @@
 -- text at the exit are given, once for a text that is too short and once for any other. `Learnt` is what a caller learns from the contract in
 -- the source. Assumes nothing.
 use Prim.Native.Nat.{_≤_, _<_}
-use mathlib.Core.Path.{_≡_, _∙⁻¹_, ap, Σ-path}
+use mathlib.Core.Path.{_∙⁻¹_, ap, Σ-path}
 use lib.Dec.{ltb}
 use lib.ListN.{length}
 use borrow.Author.Tests.{ltb-true, ltb-false}

@@ -3,7 +3,7 @@ use Prim.Native.Nat.{ℕ, suc, _+_, _<_}
 use native.Mathlib.Nat.{add-zero, add-suc, suc-add}
 use native.Mathlib.Numerals.{add-one}
 use native.Mathlib.Omega.{arith}
-use mathlib.Core.List.{List, [], _∷_, _++_}
+use mathlib.Core.List.{List, [], _∷_, _++_, append-assoc}
 use mathlib.Core.Path.{_≡_, refl, sym, _∙_, ap}
 use lib.ListN.{length, getD, set, take, length-append}
 use lib.Seq.{sets, length-sets, take-suc, take-length}
@@ -31,6 +31,14 @@ put-then {t} {u} {v} {a} {b} {at} {mid} {end} p q =
 -- the same text and place by other bytes
 pub put-as : {t u a b : List ℕ} {at end : ℕ} → a ≡ b → Put t at a u end → Put t at b u end
 put-as e p = rw e at p
+
+-- a part with the byte behind it: where it ends, and what is put behind both
+module _ (part : List ℕ) (byte : ℕ) {t u : List ℕ} {at mid : ℕ} (p : Put t at (part ++ (byte ∷ [])) u mid) where
+  pub part-end : mid ≡ at + length part + 1
+  part-end = omega (arith, p .behind, length-append part (byte ∷ []))
+
+  pub put-part-then : {v rest : List ℕ} {end : ℕ} → Put u mid rest v end → Put t at (part ++ (byte ∷ rest)) v end
+  put-part-then {v} {rest} q = put-as (append-assoc part (byte ∷ []) rest) (put-then p q)
 
 -- one byte more of a list that is put byte by byte
 pub put-next : (t u bytes : List ℕ) (at i : ℕ) → i < length bytes → Put t at (take i bytes) u (at + i) → Put t at (take (i + 1) bytes) (set u (at + i) (getD bytes i 0)) (at + (i + 1))

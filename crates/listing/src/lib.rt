@@ -1,7 +1,7 @@
 // The pole's listing: from the bytes of standard input to the bytes of the listing, in a lent buffer.
 ghost use mathlib.Core.Path.{_≡_};
 ghost use mathlib.Core.Bool.{true};
-ghost use mathlib.Core.List.{[], _∷_};
+ghost use mathlib.Core.List.{[], _∷_, _++_};
 ghost use Prim.Native.Nat.{_+_, _-_, _*_, _/_, _%_, _≤_, _<_};
 ghost use lib.ListN.{length, take};
 ghost use Rattle.rules.specs.Lists.{tab};
@@ -58,6 +58,15 @@ fn put_number(text: &mut [u8], at: usize, n: u64) -> usize
     put_byte(text, end, digit(n % 10))
 }
 
+// Puts a number in decimal and one byte behind it.
+fn put_part(text: &mut [u8], at: usize, n: u64, b: u8) -> usize
+    requires { ⌜ at + length (decimal n) < length (now text) ⌝ }
+    ensures { λ r. ⌜ Put (now (text .entry)) at (decimal n ++ (b ∷ [])) (now (text .exit)) r ⌝ }
+{
+    let next = put_number(text, at, n);
+    put_byte(text, next, b)
+}
+
 // Puts a token, by its 32 bits, in decimal.
 fn put_token(text: &mut [u8], at: usize, v: u32) -> usize
     requires { ⌜ at + length (signedDecimal (signed v)) ≤ length (now text) ⌝ }
@@ -76,12 +85,10 @@ fn put_word(text: &mut [u8], at: usize, w: u64) -> usize
     requires { ⌜ at + 25 ≤ length (now text) ⌝ }
     ensures { λ r. ⌜ Put (now (text .entry)) at (wordLine w) (now (text .exit)) r × (r ≤ at + 25) ⌝ }
 {
-    let a = put_number(text, at, w / 0x1_0000_0000 % 0x100_0000);
-    let b = put_byte(text, a, b' ');
-    let c = put_number(text, b, w / 0x100_0000_0000_0000);
-    let d = put_byte(text, c, b' ');
-    let e = put_token(text, d, (w % 0x1_0000_0000) as u32);
-    put_byte(text, e, b'\n')
+    let a = put_part(text, at, w / 0x1_0000_0000 % 0x100_0000, b' ');
+    let b = put_part(text, a, w / 0x100_0000_0000_0000, b' ');
+    let c = put_token(text, b, (w % 0x1_0000_0000) as u32);
+    put_byte(text, c, b'\n')
 }
 
 // Puts the lines of the first `count` words.
@@ -104,10 +111,8 @@ fn put_refused(text: &mut [u8], at: usize, number: u64, place: usize) -> usize
     ensures { λ r. ⌜ Put (now (text .entry)) at (lastLine 0 (refusedAs number place)) (now (text .exit)) r ⌝ }
 {
     let a = put(text, at, b"refused ");
-    let b = put_number(text, a, number);
-    let c = put_byte(text, b, b' ');
-    let d = put_number(text, c, place as u64);
-    put_byte(text, d, b'\n')
+    let b = put_part(text, a, number, b' ');
+    put_part(text, b, place as u64, b'\n')
 }
 
 // Puts the line `stop` with number, instant and channel.
@@ -116,12 +121,9 @@ fn put_stop(text: &mut [u8], at: usize, number: u64, instant: usize, channel: us
     ensures { λ r. ⌜ Put (now (text .entry)) at (lastLine 0 (stoppedAs [] number instant channel)) (now (text .exit)) r ⌝ }
 {
     let a = put(text, at, b"stop ");
-    let b = put_number(text, a, number);
-    let c = put_byte(text, b, b' ');
-    let d = put_number(text, c, instant as u64);
-    let e = put_byte(text, d, b' ');
-    let f = put_number(text, e, channel as u64);
-    put_byte(text, f, b'\n')
+    let b = put_part(text, a, number, b' ');
+    let c = put_part(text, b, instant as u64, b' ');
+    put_part(text, c, channel as u64, b'\n')
 }
 
 // Puts the line `end` and the horizon.
@@ -130,8 +132,7 @@ fn put_end(text: &mut [u8], at: usize, horizon: usize) -> usize
     ensures { λ r. ⌜ Put (now (text .entry)) at (lastLine horizon (endedAs [])) (now (text .exit)) r ⌝ }
 {
     let a = put(text, at, b"end ");
-    let b = put_number(text, a, horizon as u64);
-    put_byte(text, b, b'\n')
+    put_part(text, a, horizon as u64, b'\n')
 }
 
 // Puts the line of a refusal.
@@ -180,6 +181,15 @@ fn words_of(answer: Ran) -> usize
     }
 }
 
+// Puts the lines of a run in front: those of its words, and the last one.
+fn put_run(text: &mut [u8], horizon: usize, words: &[u64; 2048], answer: Ran) -> usize
+    requires { ⌜ (size ≤ length (now text)) × (ranSays answer .count ≤ 2048) × (length (now words) ≡ 2048) ⌝ }
+    ensures { λ r. ⌜ Put (now (text .entry)) 0 (wordLines (now (words .entry)) (ranSays answer .count) ++ lastBy horizon answer) (now (text .exit)) r ⌝ }
+{
+    let at = put_words(text, words, words_of(answer));
+    put_last(text, at, horizon, answer)
+}
+
 // ---- The input
 
 // Whether an input is well framed.
@@ -197,10 +207,7 @@ fn is_framed(s: &[u8]) -> bool
         return false;
     }
     let rest = s.len() - (5 + table);
-    if rest % 8 == 0 {
-        return rest / 8 <= 2048;
-    }
-    false
+    (rest % 8 == 0) & (rest / 8 <= 2048)
 }
 
 // The number of eight bytes from byte `i` on.
@@ -240,8 +247,7 @@ fn list_run(s: &[u8], text: &mut [u8]) -> usize
     read_arrivals(s, 5 + table, count, &mut arrivals);
     let mut words = [0u64; 2048];
     let answer = engine::run(&s[2..end], horizon, &arrivals[..count], &mut words);
-    let at = put_words(text, &words, words_of(answer));
-    put_last(text, at, horizon, answer)
+    put_run(text, horizon, &words, answer)
 }
 
 // The listing of the bytes of standard input, in front of the text; answers its length. A text shorter than SIZE is not touched, and the

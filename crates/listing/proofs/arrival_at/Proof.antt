@@ -1,4 +1,5 @@
 -- `listing::arrival_at` meets its contract: eight bytes are the front 32 bits and the back 32. Assumes nothing.
+use mathlib.Core.Path.{_∙_}
 use borrow.Author.Needs.{needs}
 use Rattle.listing.proofs.InputLaws.{eight-bytes}
 use Rattle.listing.proofs.arrival_at.Statement.{statement}
@@ -35,7 +36,7 @@ returns : tie.Need-returns
 returns c =
     let high = c .before .before in
     let given = high .before .before .before .args in
-    eight-bytes (given .s .now) (given .i) (cc) (cc)
+    eight-bytes (given .s .now) (given .i) (high .wide64 .ensures ∙ high .before .field .ensures) (c .wide642 .ensures ∙ c .before .field2 .ensures)
 
 pub arrival-at-spec : {M : Type 1} → statement M
 arrival-at-spec =

@@ -1,12 +1,13 @@
--- `listing::list_run` meets its contract: the parts of a well framed input are read, the run's words fit the list, and their lines and
--- the last line are put one behind another. Assumes nothing.
+-- `listing::list_run` meets its contract: the parts of a well framed input are read, the run's words fit the list, and the lines of the
+-- run are those of the listing. Assumes nothing.
+use Prim.Native.Nat.{_≤_}
 use native.Mathlib.Omega.{arith}
-use mathlib.Core.List.{_++_}
-use mathlib.Core.Path.{refl, sym, ap, _∙_}
+use mathlib.Core.Path.{_≡_, refl, sym, _∙_}
+use lib.ListN.{length}
 use lib.Seq.{length-take-le}
 use borrow.Author.Needs.{needs}
-use Rattle.listing.specs.Text.{wordLines, lastBy}
-use Rattle.listing.proofs.TextLaws.{put-as, put-then}
+use Rattle.rules.specs.Refusals.{ranSays}
+use Rattle.listing.proofs.TextLaws.{put-as}
 use Rattle.listing.proofs.InputLaws.{Frame, frame-of}
 use Rattle.listing.proofs.WholeLaws.{count-fits, listing-of}
 use Rattle.listing.proofs.list_run.Statement.{statement}
@@ -71,39 +72,31 @@ slice-aggregate-run-2 c = search needs
 run-requires : tie.Need-run-requires
 run-requires c κs = search needs
 
-words-of-requires : tie.Need-words-of-requires
-words-of-requires c κs = search needs
+-- the list has 2,048 places, and holds the words that the answer counts
+words-there : (c : tie.After-run) → (ranSays (c .run .result) .count ≤ 2048) × (length (c .run .last .1 .1 .1 .0) ≡ 2048)
+words-there c =
+    let many = count-fits (c .run .ensures) in
+    let same : length (c .run .last .1 .1 .1 .0) ≡ 2048 = c .run .kept .1 .1 .1 .0 in
+    (omega arith, same)
 
-put-words-requires : tie.Need-put-words-requires
-put-words-requires c κs =
-    let ran = c .before .before .before .before in
-    let many = count-fits (ran .run .ensures) in
-    let same = ran .run .kept in
+put-run-requires : tie.Need-put-run-requires
+put-run-requires c κs =
+    let ran = c .before .before .before in
     let start = ran .before .before .before .before .before .before .before .before .before .before .before .before in
-    (omega arith, omega (arith, start .pre .1), omega arith)
-
-put-last-requires : tie.Need-put-last-requires
-put-last-requires c κs =
-    let put = c .before .before .before in
-    let ran = put .before .before .before .before .before in
-    let many = count-fits (ran .run .ensures) in
-    let start = ran .before .before .before .before .before .before .before .before .before .before .before .before in
-    omega (arith, put .put-words .ensures .1, put .put-words .kept, put .before .words-of .ensures, ran .run .kept, start .pre .1)
+    (start .pre .1, words-there ran .0, words-there ran .1)
 
 same-length : tie.Need-same-length
 same-length c = search needs
 
 returns : tie.Need-returns
 returns c =
-    let last = c .before .before in
-    let put = last .before .before .before .before in
-    let ran = put .before .before .before .before .before in
+    let put = c .before .before in
+    let ran = put .before .before .before .before in
     let read = ran .before .before .before .before in
-    let table = read .before .before .before .before in
+    let horizon = read .before .before in
+    let table = horizon .before .before in
     let start = table .before .before .before .before in
-    let lines =
-    listing-of (start .args .s .now) (read .read-arrivals .last .1 .1 .1 .0) (cc) (cc) (read .read-arrivals .ensures .0) (start .pre .0) (ran .run .ensures) in
-    put-as (ap (λ n. wordLines (ran .run .last .1 .1 .1 .0) n ++ lastBy (read .before .before .wide2 .result) (ran .run .result)) (put .before .words-of .ensures) ∙ lines) (put-then (put .put-words .ensures .0) (last .put-last .ensures))
+    put-as (listing-of (start .args .s .now) (read .read-arrivals .last .1 .1 .1 .0) (table .wide .ensures ∙ table .before .field .ensures) (horizon .wide2 .ensures ∙ horizon .before .field2 .ensures) (read .read-arrivals .ensures .0) (start .pre .0) (ran .run .ensures)) (put .put-run .ensures)
 
 pub list-run-spec : {M : Type 1} → statement M
 list-run-spec =
@@ -126,8 +119,6 @@ list-run-spec =
     slice-aggregate-run
     slice-aggregate-run-2
     run-requires
-    words-of-requires
-    put-words-requires
-    put-last-requires
+    put-run-requires
     same-length
     returns)

@@ -1,7 +1,7 @@
 -- `listing::listing` meets its contract: a text that is too short is not touched; the listing of a well framed input is that of its
 -- run, and that of any other is the line of refusal 13. Assumes nothing.
 use native.Mathlib.Omega.{arith}
-use mathlib.Core.Path.{refl, sym}
+use mathlib.Core.Path.{refl, sym, _∙_}
 use borrow.Author.Needs.{needs}
 use Rattle.listing.proofs.TextLaws.{put-as}
 use Rattle.listing.proofs.InputLaws.{unframed-listing}
@@ -15,7 +15,7 @@ is-framed-requires : tie.Need-is-framed-requires
 is-framed-requires c κs = search needs
 
 list-run-requires : tie.Need-list-run-requires
-list-run-requires c κs = (cc, omega arith)
+list-run-requires c κs = (sym (c .before .before .is-framed .ensures) ∙ c .before .if2 .taken, omega arith)
 
 same-length : tie.Need-same-length
 same-length c = search needs
@@ -31,9 +31,12 @@ same-length-2 c = search needs
 
 returns-3 : tie.Need-returns-3
 returns-3 c =
+    let unframed = c .before .before .before .before in
+    let start = unframed .before .before .before .before .before in
     record {
       short = λ h. absurd (omega arith);
-      whole = λ h. put-as (sym (unframed-listing (c .before .before .before .before .before .before .before .before .before .args .s .now) (cc))) (c .before .before .put-refused .ensures);
+      whole = λ h.
+          put-as (sym (unframed-listing (start .args .s .now) (sym (unframed .before .is-framed .ensures) ∙ unframed .if2 .left))) (c .before .before .put-refused .ensures);
     }
 
 pub listing-spec : {M : Type 1} → statement M

@@ -1,4 +1,4 @@
--- `listing::put_end` meets its contract: the word, the horizon of at most 20 digits and the line feed are put one behind another.
+-- `listing::put_end` meets its contract: the word, and the horizon of at most 20 digits with the line feed are put one behind the other.
 -- Assumes nothing.
 use native.Mathlib.Omega.{arith}
 use borrow.Author.Needs.{needs}
@@ -14,11 +14,8 @@ slice-aggregate-put c = search needs
 put-requires : tie.Need-put-requires
 put-requires c κs = search needs
 
-put-number-requires : tie.Need-put-number-requires
-put-number-requires c κs = omega (arith, decimal-length 19 (c .before .before .before .before .before .before .before .args .horizon) (omega arith))
-
-put-byte-requires : tie.Need-put-byte-requires
-put-byte-requires c κs = omega (arith, decimal-length 19 (c .before .before .before .before .before .before .before .before .before .before .before .args .horizon) (omega arith))
+put-part-requires : tie.Need-put-part-requires
+put-part-requires c κs = omega (arith, decimal-length 19 (c .before .before .before .before .before .before .before .args .horizon) (omega arith))
 
 same-length : tie.Need-same-length
 same-length c = search needs
@@ -26,18 +23,9 @@ same-length c = search needs
 returns : tie.Need-returns
 unfolding lastLine line
 returns c =
-    let feed = c .before .before in
-    let horizon = feed .before .before .before .before in
-    let word = horizon .before .before .before .before in
-    put-then (word .put .ensures) (put-then (horizon .put-number .ensures) (feed .put-byte .ensures))
+    let horizon = c .before .before in
+    put-then (horizon .before .before .before .before .put .ensures) (horizon .put-part .ensures)
 
 pub put-end-spec : {M : Type 1} → statement M
 put-end-spec =
-    tie.close
-    (tie.spec
-    slice-aggregate-put
-    put-requires
-    put-number-requires
-    put-byte-requires
-    same-length
-    returns)
+    tie.close (tie.spec slice-aggregate-put put-requires put-part-requires same-length returns)
