@@ -5,10 +5,10 @@ use native.Mathlib.Numerals.{add-one}
 use native.Mathlib.Omega.{arith}
 use mathlib.Core.List.{List, [], _∷_, _++_}
 use mathlib.Core.Path.{_≡_, refl, sym, _∙_, ap}
-use lib.ListN.{length, set}
+use lib.ListN.{length, set, replicate}
 use Rattle.rules.specs.declared.Channel.{Channel}
 use Rattle.rules.specs.declared.Refusal.{Refusal}
-use Rattle.rules.specs.Lists.{tab}
+use Rattle.rules.specs.Lists.{tabFrom, tab}
 use Rattle.rules.specs.Network.{channelAmong}
 use Rattle.rules.specs.Table.{Reading, refusal, read, _then_, withChannel, tokensUpTo, channelPiece, channelsUpTo}
 use Rattle.rules.proofs.Pieces.{tokens-count}
@@ -24,9 +24,9 @@ use Rattle.table.proofs.Piece.{channel-room}
 use Rattle.table.proofs.Places.{length-padded, stored-places}
 
 -- a refusal on the way stands whatever would follow
-refused-through : {A B C : Type 0} (r : Reading A) (go : A → Reading B) (last : A → B → Reading C) {number place : ℕ} → (r then go) ≡ refusal number place → (r then λ a. go a then last a) ≡ refusal number place
-refused-through (refusal m q) go last e = cc
-refused-through (read a) go last e = rw e
+refused-through : {A B C : Type 0} (r : Reading A) (go : A → Reading B) (last : A → B → Reading C) (number place : ℕ) → (r then go) ≡ refusal number place → (r then λ a. go a then last a) ≡ refusal number place
+refused-through (refusal m q) go last number place e = cc
+refused-through (read a) go last number place e = rw e
 
 -- the first channels are read and laid out, with the bit behind them and their capacities together
 pub record UpTo (s : List ℕ) (nodes c at together : ℕ) (arrays : ChannelArrays) : Type 0 where
@@ -39,12 +39,12 @@ pub record Bounds (nodes c at together : ℕ) (tokens : List ℕ) : Type 0 where
   pub enough : together ≤ 1024
   pub long : length tokens ≡ 1024
 
--- before the first channel
-pub no-channels : (s : List ℕ) (nodes : ℕ) {arrays : ChannelArrays} → arrays ≡ channelArrays [] [] → UpTo s nodes 0 (24 + 69 * nodes) 0 arrays
-unfolding channelsUpTo
-no-channels s nodes none =
+-- before the first channel all is zero
+pub no-channels : (s : List ℕ) (nodes : ℕ) → UpTo s nodes 0 (24 + 69 * nodes) 0 (record { sort = replicate 64 0; writer = replicate 64 0; reader = replicate 64 0; port = replicate 64 0; capacity = replicate 64 0; initial = replicate 64 0; tokens = replicate 1024 0 })
+unfolding channelsUpTo channelArrays tab tabFrom padded allPlaces
+no-channels s nodes =
     record {
-      done = record { all = record { channels = []; tokens = []; together = 0; end = 24 + 69 * nodes }; reads = refl; ends = refl; laid = none };
+      done = record { all = record { channels = []; tokens = []; together = 0; end = 24 + 69 * nodes }; reads = refl; ends = refl; laid = refl };
       sum = refl;
     }
 
@@ -70,18 +70,18 @@ module _ {s : List ℕ} {nodes c at together : ℕ} {arrays : ChannelArrays} (up
   refused-next count {p} {why} after more got is =
       let all = up-to .done .all in
       let next = rw (is, up-to .done .ends, up-to .sum) at got in
-      let through = refused-through (channelPiece s nodes c (all .end) (all .together)) (λ ch. tokensUpTo s (all .end + 29) (ch .initial)) (λ ch tokens. read (withChannel all ch tokens)) next in
+      let through = refused-through (channelPiece s nodes c (all .end) (all .together)) (λ ch. tokensUpTo s (all .end + 29) (ch .initial)) (λ ch tokens. read (withChannel all ch tokens)) _ _ next in
       let here : channelsUpTo s nodes (suc c) ≡ refusedBy why = rw (up-to .done .reads) through in
       let rest : suc c + (count - suc c) ≡ count = omega arith in
       rw rest at (channels-refused s nodes (suc c) (count - suc c) _ _ here)
 
-  -- a field of one channel more
-  field-next : c < 64 → (f : Channel → ℕ) (ch : Channel) {a : List ℕ} → a ≡ tab 64 (λ i. f (channelAmong (up-to .done .all .channels) i)) → set a c (f ch) ≡ tab 64 (λ i. f (channelAmong (up-to .done .all .channels ++ (ch ∷ [])) i))
-  field-next room f ch e =
-      let count = extent .count in
-      rw (e, ← count) (laid-next 64 f (up-to .done .all .channels) ch _ (omega arith))
+  module _ {ch : Channel} {after : List ℕ} (new : ChannelDone s nodes c at together (arrays .tokens) ch after) (room : c < 64) where
+    -- a field of one channel more
+    field-next : (f : Channel → ℕ) (a : List ℕ) → a ≡ tab 64 (λ i. f (channelAmong (up-to .done .all .channels) i)) → set a c (f ch) ≡ tab 64 (λ i. f (channelAmong (up-to .done .all .channels ++ (ch ∷ [])) i))
+    field-next f a e =
+        let count = extent .count in
+        rw (e, ← count) (laid-next 64 f (up-to .done .all .channels) ch _ (omega arith))
 
-  module _ {ch : Channel} {after : List ℕ} (new : ChannelDone s nodes c at together (arrays .tokens) ch after) where
     -- the places with its tokens
     tokens-next : arrays .tokens ≡ padded 1024 (allPlaces (up-to .done .all .channels) (up-to .done .all .tokens)) → after ≡ padded 1024 (allPlaces (up-to .done .all .channels ++ (ch ∷ [])) (up-to .done .all .tokens ++ (new .tokens .tokens ∷ [])))
     tokens-next e =
@@ -94,9 +94,9 @@ module _ {s : List ℕ} {nodes c at together : ℕ} {arrays : ChannelArrays} (up
         (stored-places (up-to .done .all .channels) (up-to .done .all .tokens) ch (new .tokens .tokens) (x .held ∙ sym (x .count)) held (omega (arith, fits .enough)))
 
     -- one channel more is read and laid out
-    pub channel-next : c < 64 → UpTo s nodes (c + 1) (at + 29 + 32 * ch .initial) (together + ch .capacity) (record { sort = set (arrays .sort) c (ch .sort); writer = set (arrays .writer) c (ch .writer); reader = set (arrays .reader) c (ch .reader); port = set (arrays .port) c (ch .port); capacity = set (arrays .capacity) c (ch .capacity); initial = set (arrays .initial) c (ch .initial); tokens = after })
+    pub channel-next : UpTo s nodes (c + 1) (at + 29 + 32 * ch .initial) (together + ch .capacity) (record { sort = set (arrays .sort) c (ch .sort); writer = set (arrays .writer) c (ch .writer); reader = set (arrays .reader) c (ch .reader); port = set (arrays .port) c (ch .port); capacity = set (arrays .capacity) c (ch .capacity); initial = set (arrays .initial) c (ch .initial); tokens = after })
     unfolding channelsUpTo withChannel channelArrays
-    channel-next room =
+    channel-next =
         let all = up-to .done .all in
         let laid = up-to .done .laid in
         let piece = rw (up-to .done .ends, up-to .sum) at (new .piece) in
@@ -109,12 +109,12 @@ module _ {s : List ℕ} {nodes c at together : ℕ} {arrays : ChannelArrays} (up
                 ends = rw (up-to .done .ends);
                 laid = λ i.
                     record {
-                      sort = field-next room (λ ch. ch .sort) ch (λ j. laid j .sort) i;
-                      writer = field-next room (λ ch. ch .writer) ch (λ j. laid j .writer) i;
-                      reader = field-next room (λ ch. ch .reader) ch (λ j. laid j .reader) i;
-                      port = field-next room (λ ch. ch .port) ch (λ j. laid j .port) i;
-                      capacity = field-next room (λ ch. ch .capacity) ch (λ j. laid j .capacity) i;
-                      initial = field-next room (λ ch. ch .initial) ch (λ j. laid j .initial) i;
+                      sort = field-next (λ ch. ch .sort) (arrays .sort) (λ j. laid j .sort) i;
+                      writer = field-next (λ ch. ch .writer) (arrays .writer) (λ j. laid j .writer) i;
+                      reader = field-next (λ ch. ch .reader) (arrays .reader) (λ j. laid j .reader) i;
+                      port = field-next (λ ch. ch .port) (arrays .port) (λ j. laid j .port) i;
+                      capacity = field-next (λ ch. ch .capacity) (arrays .capacity) (λ j. laid j .capacity) i;
+                      initial = field-next (λ ch. ch .initial) (arrays .initial) (λ j. laid j .initial) i;
                       tokens = tokens-next (λ j. laid j .tokens) i;
                     };
               };

@@ -5,9 +5,10 @@ use native.Mathlib.Omega.{arith}
 use mathlib.Core.List.{List, [], _∷_, _++_}
 use mathlib.Core.Path.{_≡_, refl}
 use lib.IntN.{pos}
-use lib.ListN.{length, set}
+use lib.ListN.{length, set, replicate}
 use Rattle.rules.specs.declared.Node.{Node}
 use Rattle.rules.specs.declared.Refusal.{Refusal}
+use Rattle.rules.specs.Lists.{tab, tabFrom}
 use Rattle.rules.specs.Kinds.{pattern}
 use Rattle.rules.specs.Table.{read, nodePiece, nodesUpTo}
 use Rattle.rules.proofs.Pieces.{nodes-count}
@@ -18,10 +19,10 @@ use Rattle.pieces.specs.Says.{refusedBy}
 use Rattle.table.specs.Reads.{NodesDone}
 use Rattle.table.proofs.LaidLaws.{laid-next}
 
--- before the first node
-pub no-nodes : (s : List ℕ) {arrays : NodeArrays} → arrays ≡ nodeArrays [] → NodesDone s 0 arrays
-unfolding nodesUpTo
-no-nodes s none = record { nodes = []; reads = refl; laid = none }
+-- no node is read yet, and the arrays are all zero
+pub no-nodes : (s : List ℕ) → NodesDone s 0 (record { kind = replicate 32 0; period = replicate 32 0; deadline = replicate 32 0; constant = replicate 32 0 })
+unfolding nodesUpTo nodeArrays tab tabFrom
+no-nodes s = record { nodes = []; reads = refl; laid = refl }
 
 -- the arrays with one node stored
 abbrev pub stored : NodeArrays → ℕ → Node → NodeArrays
@@ -47,9 +48,9 @@ laid-node nodes node room =
     }
 
 -- node n is read and stored, so one node more is done
-pub node-turn : (s : List ℕ) (n : ℕ) {arrays : NodeArrays} (node : Node) → n < 32 → NodesDone s n arrays → read node ≡ nodePiece s n → NodesDone s (n + 1) (stored arrays n node)
+pub node-turn : (s : List ℕ) (n : ℕ) (arrays : NodeArrays) (node : Node) → n < 32 → NodesDone s n arrays → read node ≡ nodePiece s n → NodesDone s (n + 1) (stored arrays n node)
 unfolding nodesUpTo
-node-turn s n node room done piece =
+node-turn s n arrays node room done piece =
     let count : length (done .nodes) ≡ n = nodes-count s n (done .nodes) (done .reads) in
     let fits : length (done .nodes) < 32 = omega arith in
     record {
@@ -59,8 +60,8 @@ node-turn s n node room done piece =
     }
 
 -- node n is refused, so the nodes up to any greater number are
-pub node-refused : (s : List ℕ) (n count : ℕ) {arrays : NodeArrays} (why : Refusal) → n < count → NodesDone s n arrays → refusedBy why ≡ nodePiece s n → nodesUpTo s count ≡ refusedBy why
+pub node-refused : (s : List ℕ) (n count : ℕ) (arrays : NodeArrays) (why : Refusal) → n < count → NodesDone s n arrays → refusedBy why ≡ nodePiece s n → nodesUpTo s count ≡ refusedBy why
 unfolding nodesUpTo
-node-refused s n count why more done piece =
+node-refused s n count arrays why more done piece =
     let rest : count ≡ suc n + (count - suc n) = omega arith in
     rw rest (nodes-refused s (suc n) (count - suc n) _ _ (rw (done .reads, ← piece)))

@@ -41,7 +41,7 @@ sets-over l over behind vs same =
     ∙ rw (take-append-seam l (over ++ behind), drop-append-add l (over ++ behind) (length vs), drop-at over behind (length vs) same) (append-assoc l vs behind)
 
 -- a list stored behind another one among zeros, with some of the zeros behind it counted to it
-stored-behind : (n : ℕ) (l vs : List ℕ) (zeros : ℕ) → length l + (length vs + zeros) ≤ n → sets (padded n l) (length l) vs ≡ padded n (l ++ (vs ++ replicate zeros 0))
+pub stored-behind : (n : ℕ) (l vs : List ℕ) (zeros : ℕ) → length l + (length vs + zeros) ≤ n → sets (padded n l) (length l) vs ≡ padded n (l ++ (vs ++ replicate zeros 0))
 unfolding padded
 stored-behind n l vs zeros within =
     let longer = l ++ (vs ++ replicate {A = ℕ} zeros 0) in

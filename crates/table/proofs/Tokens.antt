@@ -19,12 +19,12 @@ use Rattle.rules.proofs.ReadingLaws.{tokens-refused}
 use Rattle.table.specs.Reads.{TokensDone}
 
 -- stores from a place on, and one more behind them
-sets-more : {A : Type 0} (l : List A) (base : ℕ) (vs : List A) (v : A) → sets l base (vs ++ (v ∷ [])) ≡ set (sets l base vs) (base + length vs) v
+pub sets-more : {A : Type 0} (l : List A) (base : ℕ) (vs : List A) (v : A) → sets l base (vs ++ (v ∷ [])) ≡ set (sets l base vs) (base + length vs) v
 sets-more l base [] v = rw add-zero
 sets-more l base (a ∷ vs) v = rw (sets-more (set l base a) (suc base) vs v, add-suc, suc-add)
 
 -- the bits of the token that a field of 32 bits stands for are the field
-token-pattern : (s : List ℕ) (at : ℕ) → pattern (signed (fieldAt s at 32)) ≡ fieldAt s at 32
+pub token-pattern : (s : List ℕ) (at : ℕ) → pattern (signed (fieldAt s at 32)) ≡ fieldAt s at 32
 token-pattern s at = pattern-signed (fieldAt s at 32) (field-below s at 32)
 
 -- before the first token nothing is stored

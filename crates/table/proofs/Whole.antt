@@ -52,20 +52,14 @@ module _ (s : List ℕ) {nodes channels : ℕ} (header : headerAt s ≡ read (re
   pub channels-within : channels ≤ 64
   channels-within = counts-within nodes channels lawful-counts .1
 
-  -- channels that were read end within reach
-  pub end-near : {end : ℕ} {channel : ChannelArrays} → ChannelsDone s nodes channels end channel → end < 65536
-  end-near back =
-      let e = channels-extent s nodes channels .given (back .all) (back .reads) in
-      omega (arith, nodes-within, channels-within, back .ends, e .far, e .enough)
-
   pub refused-by-nodes : (arrays : NodeArrays) {p : Progress} {why : Refusal} {r : Table} → NodesRead s nodes p arrays → p ≡ Progress.Refused why → r ≡ refusedTable why → TableOf (network s) r
   unfolding network
   refused-by-nodes arrays {p} {why} got is = refused-table s why (rw (header, rw is at got))
 
   module _ {node : NodeArrays} (front : NodesDone s nodes node) where
-    pub refused-by-channels : (end : ℕ) (arrays : ChannelArrays) {p : Progress} {why : Refusal} {r : Table} → ChannelsRead s nodes channels p end arrays → p ≡ Progress.Refused why → r ≡ refusedTable why → TableOf (network s) r
+    pub refused-by-channels : (arrays : ChannelArrays) {p : Progress} {why : Refusal} {r : Table} → ChannelsRead s nodes channels p arrays → p ≡ Progress.Refused why → r ≡ refusedTable why → TableOf (network s) r
     unfolding network
-    refused-by-channels end arrays {p} {why} got is = refused-table s why (rw (header, front .reads, rw is at got))
+    refused-by-channels arrays {p} {why} got is = refused-table s why (rw (header, front .reads, rw is at got))
 
     -- each node that was read is of a kind that there is
     pub kinds-known : (n : ℕ) → n < nodes → getD (node .kind) n 0 < 12
@@ -86,6 +80,11 @@ module _ (s : List ℕ) {nodes channels : ℕ} (header : headerAt s ≡ read (re
       by-end : network s ≡ (unless (endsAt s end) 7 0 net then λ net. unless (eqb (faultyNode net) (length (net .nodes))) 8 (faultyNode net) net)
       unfolding network net
       by-end = rw (header, front .reads, back .reads, back .ends)
+
+      pub end-near : end < 65536
+      end-near =
+          let e = channels-extent s nodes channels .given (back .all) (back .reads) in
+          omega (arith, nodes-within, channels-within, back .ends, e .far, e .enough)
 
       node-count : length (front .nodes) ≡ nodes
       node-count = nodes-count s nodes (front .nodes) (front .reads)

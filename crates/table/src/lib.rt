@@ -1,6 +1,5 @@
 // Reading a table: from lent bytes to a network, or the first rule that they break and where. The pieces are taken in the paper's order,
 // each read whole and then checked.
-ghost use mathlib.Core.List.{[]};
 ghost use mathlib.Core.Path.{_≡_};
 ghost use Prim.Native.Nat.{ℕ, _+_, _*_, _≤_, _<_};
 ghost use lib.ListN.{length, getD};
@@ -8,7 +7,7 @@ ghost use Rattle.rules.specs.Lists.{count, every, lowest};
 ghost use Rattle.rules.specs.Kinds.{inputs as inputsOf};
 ghost use Rattle.rules.specs.Table.{read as readAs, headerAt, endsAt, network};
 ghost use Rattle.rules.specs.Refusals.{check as checkRule, checkedSays};
-ghost use Rattle.table.specs.Laid.{nodeArrays, channelArrays, refusedTable, TableOf};
+ghost use Rattle.table.specs.Laid.{refusedTable, TableOf};
 ghost use Rattle.table.specs.Reads.{NodesDone, NodesRead, TokensRead, ChannelWithTokens, ChannelsDone, ChannelsRead, servedBy, servedRight, faultyIn};
 use pieces::ChannelRead;
 use pieces::Header;
@@ -16,9 +15,9 @@ use pieces::NodeRead;
 use rules::Checked;
 use rules::Refusal;
 
-// Whether all pieces of one sort were read, or the first refusal.
+// Whether all pieces of one sort were read, with the bit behind them, or the first refusal.
 enum Progress {
-    Done,
+    Done { end: usize },
     Refused(Refusal),
 }
 
@@ -62,10 +61,9 @@ struct Nodes {
     arrays: NodeArrays,
 }
 
-// The channels that were read so far, and the bit behind them.
+// The channels that were read so far.
 struct Channels {
     progress: Progress,
-    end: usize,
     arrays: ChannelArrays,
 }
 
@@ -73,24 +71,15 @@ struct Channels {
 
 // ---- Nodes
 
-// The fields of no node.
-fn no_nodes() -> NodeArrays
-    ensures { λ r. ⌜ r ≡ nodeArrays [] ⌝ }
-{
-    NodeArrays {
-        kind: [0u32; 32],
-        period: [0u32; 32],
-        deadline: [0u32; 32],
-        constant: [0u32; 32],
-    }
-}
-
 // The first `count` nodes.
 fn read_nodes(s: &[u8], count: usize) -> Nodes
     requires { ⌜ count ≤ 32 ⌝ }
     ensures { λ r. ⌜ NodesRead (now (s .entry)) count (r .progress) (r .arrays) ⌝ }
 {
-    let mut arrays = no_nodes();
+    let mut kind = [0u32; 32];
+    let mut period = [0u32; 32];
+    let mut deadline = [0u32; 32];
+    let mut constant = [0u32; 32];
     let mut n = 0;
     while n < count {
         let p = pieces::node_piece(s, n);
@@ -98,21 +87,33 @@ fn read_nodes(s: &[u8], count: usize) -> Nodes
             NodeRead::Refused(why) => {
                 return Nodes {
                     progress: Progress::Refused(why),
-                    arrays,
+                    arrays: NodeArrays {
+                        kind,
+                        period,
+                        deadline,
+                        constant,
+                    },
                 };
             }
             NodeRead::Read(node) => {
-                arrays.kind[n] = node.kind;
-                arrays.period[n] = node.period;
-                arrays.deadline[n] = node.deadline;
-                arrays.constant[n] = fields::pattern(node.constant);
+                kind[n] = node.kind;
+                period[n] = node.period;
+                deadline[n] = node.deadline;
+                constant[n] = fields::pattern(node.constant);
             }
         }
         n += 1;
     }
     Nodes {
-        progress: Progress::Done,
-        arrays,
+        progress: Progress::Done {
+            end: 24 + 69 * count,
+        },
+        arrays: NodeArrays {
+            kind,
+            period,
+            deadline,
+            constant,
+        },
     }
 }
 
@@ -133,7 +134,9 @@ fn read_tokens(s: &[u8], at: usize, count: usize, tokens: &mut [u32; 1024], base
         }
         i += 1;
     }
-    Progress::Done
+    Progress::Done {
+        end: at + 32 * count,
+    }
 }
 
 // Channel `c`, which stands at bit `at` behind channels whose capacities together are `together`, with its tokens, stored from place
@@ -156,53 +159,51 @@ fn read_channel(
             let t = read_tokens(s, at + 29, fields::wide(ch.initial), tokens, together);
             match t {
                 Progress::Refused(why) => ChannelRead::Refused(why),
-                Progress::Done => ChannelRead::Read(ch),
+                Progress::Done { end: _ } => ChannelRead::Read(ch),
             }
         }
-    }
-}
-
-// The fields and the places of no channel.
-fn no_channels() -> ChannelArrays
-    ensures { λ r. ⌜ r ≡ channelArrays [] [] ⌝ }
-{
-    ChannelArrays {
-        sort: [0u32; 64],
-        writer: [0u32; 64],
-        reader: [0u32; 64],
-        port: [0u32; 64],
-        capacity: [0u32; 64],
-        initial: [0u32; 64],
-        tokens: [0u32; 1024],
     }
 }
 
 // The first `count` channels, behind `nodes` nodes.
 fn read_channels(s: &[u8], nodes: usize, count: usize) -> Channels
     requires { ⌜ (nodes ≤ 32) × (count ≤ 64) ⌝ }
-    ensures { λ r. ⌜ ChannelsRead (now (s .entry)) nodes count (r .progress) (r .end) (r .arrays) ⌝ }
+    ensures { λ r. ⌜ ChannelsRead (now (s .entry)) nodes count (r .progress) (r .arrays) ⌝ }
 {
-    let mut arrays = no_channels();
+    let mut sort = [0u32; 64];
+    let mut writer = [0u32; 64];
+    let mut reader = [0u32; 64];
+    let mut port = [0u32; 64];
+    let mut capacity = [0u32; 64];
+    let mut initial = [0u32; 64];
+    let mut tokens = [0u32; 1024];
     let mut at = 24 + 69 * nodes;
     let mut together = 0;
     let mut c = 0;
     while c < count {
-        let p = read_channel(s, nodes, c, at, together, &mut arrays.tokens);
+        let p = read_channel(s, nodes, c, at, together, &mut tokens);
         match p {
             ChannelRead::Refused(why) => {
                 return Channels {
                     progress: Progress::Refused(why),
-                    end: at,
-                    arrays,
+                    arrays: ChannelArrays {
+                        sort,
+                        writer,
+                        reader,
+                        port,
+                        capacity,
+                        initial,
+                        tokens,
+                    },
                 };
             }
             ChannelRead::Read(ch) => {
-                arrays.sort[c] = ch.sort;
-                arrays.writer[c] = ch.writer;
-                arrays.reader[c] = ch.reader;
-                arrays.port[c] = ch.port;
-                arrays.capacity[c] = ch.capacity;
-                arrays.initial[c] = ch.initial;
+                sort[c] = ch.sort;
+                writer[c] = ch.writer;
+                reader[c] = ch.reader;
+                port[c] = ch.port;
+                capacity[c] = ch.capacity;
+                initial[c] = ch.initial;
                 at = at + 29 + 32 * fields::wide(ch.initial);
                 together = together + fields::wide(ch.capacity);
             }
@@ -210,9 +211,16 @@ fn read_channels(s: &[u8], nodes: usize, count: usize) -> Channels
         c += 1;
     }
     Channels {
-        progress: Progress::Done,
-        end: at,
-        arrays,
+        progress: Progress::Done { end: at },
+        arrays: ChannelArrays {
+            sort,
+            writer,
+            reader,
+            port,
+            capacity,
+            initial,
+            tokens,
+        },
     }
 }
 
@@ -248,8 +256,10 @@ fn served(reader: &[u32; 64], port: &[u32; 64], channels: usize, n: usize, p: u3
     let mut found = 0;
     let mut c = 0;
     while c < channels {
-        if (fields::wide(reader[c]) == n) & (port[c] == p) {
-            found += 1;
+        if fields::wide(reader[c]) == n {
+            if port[c] == p {
+                found += 1;
+            }
         }
         c += 1;
     }
@@ -320,8 +330,21 @@ fn refused(why: Refusal) -> Table
         network: Network {
             nodes: 0,
             channels: 0,
-            node: no_nodes(),
-            channel: no_channels(),
+            node: NodeArrays {
+                kind: [0u32; 32],
+                period: [0u32; 32],
+                deadline: [0u32; 32],
+                constant: [0u32; 32],
+            },
+            channel: ChannelArrays {
+                sort: [0u32; 64],
+                writer: [0u32; 64],
+                reader: [0u32; 64],
+                port: [0u32; 64],
+                capacity: [0u32; 64],
+                initial: [0u32; 64],
+                tokens: [0u32; 1024],
+            },
         },
     }
 }
@@ -368,9 +391,9 @@ fn read_rest(s: &[u8], nodes: usize, channels: usize, node: NodeArrays) -> Table
     let progress = cs.progress;
     match progress {
         Progress::Refused(why) => refused(why),
-        Progress::Done => {
+        Progress::Done { end } => {
             let channel = cs.arrays;
-            read_end(s, nodes, channels, cs.end, node, channel)
+            read_end(s, nodes, channels, end, node, channel)
         }
     }
 }
@@ -387,7 +410,7 @@ pub fn read(s: &[u8]) -> Table
             let progress = ns.progress;
             match progress {
                 Progress::Refused(why) => refused(why),
-                Progress::Done => {
+                Progress::Done { end: _ } => {
                     let node = ns.arrays;
                     read_rest(s, nodes, channels, node)
                 }

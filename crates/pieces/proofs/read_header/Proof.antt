@@ -2,7 +2,7 @@
 -- and the spare bits together. Assumes nothing.
 use Prim.Native.Nat.{_*_, _≤_}
 use native.Mathlib.Omega.{arith}
-use mathlib.Core.Bool.{_&&_}
+use mathlib.Core.Bool.{true, _&&_}
 use mathlib.Core.Path.{_≡_}
 use lib.Dec.{eqb}
 use lib.ListN.{length}
@@ -53,7 +53,9 @@ by-counts c =
     (← version .before .before .before .there .ensures, version .before .before .if1 .taken, ← version .before .field .ensures, version .if2 .taken, ← wide .before .field2 .ensures, ← wide .wide .ensures, ← spare .before .before .field3 .ensures, ← spare .before .wide2 .ensures, ← spare .field4 .ensures, ← c .counts-ok .ensures)
 
 returns : tie.Need-returns
-returns c = rw (by-counts (c .before), c .if3 .taken)
+returns c =
+    let passed : (c .before .counts-ok .result && eqb (c .before .before .field4 .result) 0) ≡ true = c .if3 .taken in
+    rw (by-counts (c .before), passed)
 
 returns-2 : tie.Need-returns-2
 returns-2 c = rw (by-counts (c .before), c .if3 .left)

@@ -39,7 +39,7 @@ returns : tie.Need-returns
 returns c =
     let a = c .before .before .before .before .before .args in
     let says = c .before .before .before .channel-piece .ensures in
-    refused-by-piece (a .s .now) (a .nodes) (a .c) (a .at) (a .together) says (c .before .p .given .1)
+    refused-by-piece (a .s .now) (a .nodes) (a .c) (a .at) (a .together) says (a .tokens .now) (a .tokens .now) (c .before .p .given .1)
 
 returns-2 : tie.Need-returns-2
 returns-2 c =

@@ -10,13 +10,12 @@ use Rattle.table.proofs.read_channels.Statement.{statement}
 use Rattle.table.proofs.read_channels.Tie as tie
 
 abbrev Inv-loop : tie.InvT-loop
-Inv-loop s nodes count arrays₀ at₀ together₀ c₀ arrays at together c = (c ≤ count) × UpTo s nodes c at together arrays
+Inv-loop s nodes count sort₀ writer₀ reader₀ port₀ capacity₀ initial₀ tokens₀ at₀ together₀ c₀ sort writer reader port capacity initial tokens at together c =
+    (c ≤ count)
+    × UpTo s nodes c at together (record { sort = sort; writer = writer; reader = reader; port = port; capacity = capacity; initial = initial; tokens = tokens })
 
 abbrev μ-loop : tie.MeasureT-loop
-μ-loop s nodes count arrays₀ at₀ together₀ c₀ arrays at together c = count - c
-
-no-channels-requires : tie.Need-no-channels-requires Inv-loop μ-loop
-no-channels-requires c κs = search needs
+μ-loop s nodes count sort₀ writer₀ reader₀ port₀ capacity₀ initial₀ tokens₀ at₀ together₀ c₀ sort writer reader port capacity initial tokens at together c = count - c
 
 mul-at : tie.Need-mul-at Inv-loop μ-loop
 mul-at c = search needs
@@ -25,9 +24,7 @@ add-at : tie.Need-add-at Inv-loop μ-loop
 add-at c = search needs
 
 loop-holds : tie.Need-loop-holds Inv-loop μ-loop
-loop-holds c =
-    let args = c .before .before .args in
-    (zero-le, no-channels (args .s .now) (args .nodes) (c .no-channels .ensures))
+loop-holds c = (zero-le, no-channels (c .before .args .s .now) (c .before .args .nodes))
 
 read-channel-requires : tie.Need-read-channel-requires Inv-loop μ-loop
 read-channel-requires c κs =
@@ -40,18 +37,46 @@ enum-known-p c = search needs
 returns : tie.Need-returns Inv-loop μ-loop
 returns c =
     let got = c .before .before .before .read-channel in
-    let turn = c .before .before .before .before .before in
-    refused-next (turn .before .loop .inv .1) (turn .before .before .before .before .args .count) (got .last .1 .1 .1 .1 .1 .0) (turn .loop-test .taken) (got .ensures) (c .before .p .given .1)
+    refused-next (c .before .before .before .before .before .before .loop .inv .1) (c .before .before .before .before .before .before .before .before .args .count) (got .last .1 .1 .1 .1 .1 .0) (omega arith) (got .ensures) (c .before .p .given .1)
 
 enum-known-p-2 : tie.Need-enum-known-p-2 Inv-loop μ-loop
 enum-known-p-2 c = search needs
 
--- the six stores are at the same place of arrays of the same length
-mul-arrays : tie.Need-mul-arrays Inv-loop μ-loop
-mul-arrays c = search needs
+mul-sort : tie.Need-mul-sort Inv-loop μ-loop
+mul-sort c = search needs
 
-element-write-arrays : tie.Need-element-write-arrays Inv-loop μ-loop
-element-write-arrays c = search needs
+array-write-sort : tie.Need-array-write-sort Inv-loop μ-loop
+array-write-sort c = search needs
+
+mul-writer : tie.Need-mul-writer Inv-loop μ-loop
+mul-writer c = search needs
+
+array-write-writer : tie.Need-array-write-writer Inv-loop μ-loop
+array-write-writer c = search needs
+
+mul-reader : tie.Need-mul-reader Inv-loop μ-loop
+mul-reader c = search needs
+
+array-write-reader : tie.Need-array-write-reader Inv-loop μ-loop
+array-write-reader c = search needs
+
+mul-port : tie.Need-mul-port Inv-loop μ-loop
+mul-port c = search needs
+
+array-write-port : tie.Need-array-write-port Inv-loop μ-loop
+array-write-port c = search needs
+
+mul-capacity : tie.Need-mul-capacity Inv-loop μ-loop
+mul-capacity c = search needs
+
+array-write-capacity : tie.Need-array-write-capacity Inv-loop μ-loop
+array-write-capacity c = search needs
+
+mul-initial : tie.Need-mul-initial Inv-loop μ-loop
+mul-initial c = search needs
+
+array-write-initial : tie.Need-array-write-initial Inv-loop μ-loop
+array-write-initial c = search needs
 
 add-at-2 : tie.Need-add-at-2 Inv-loop μ-loop
 add-at-2 c = let b = bounds (c .before .before .before .before .before .before .loop .inv .1) in omega arith
@@ -85,7 +110,7 @@ loop-again c =
 
 returns-2 : tie.Need-returns-2 Inv-loop μ-loop
 returns-2 c =
-    let all : c .before .loop .c ≡ c .before .before .before .before .args .count = omega arith in
+    let all : c .before .loop .c ≡ c .before .before .before .args .count = omega arith in
     rw all at (c .before .loop .inv .1 .done)
 
 pub read-channels-spec : {M : Type 1} → statement M
@@ -94,7 +119,6 @@ read-channels-spec =
     (tie.spec
     Inv-loop
     μ-loop
-    no-channels-requires
     mul-at
     add-at
     loop-holds
@@ -102,18 +126,18 @@ read-channels-spec =
     enum-known-p
     returns
     enum-known-p-2
-    mul-arrays
-    element-write-arrays
-    mul-arrays
-    element-write-arrays
-    mul-arrays
-    element-write-arrays
-    mul-arrays
-    element-write-arrays
-    mul-arrays
-    element-write-arrays
-    mul-arrays
-    element-write-arrays
+    mul-sort
+    array-write-sort
+    mul-writer
+    array-write-writer
+    mul-reader
+    array-write-reader
+    mul-port
+    array-write-port
+    mul-capacity
+    array-write-capacity
+    mul-initial
+    array-write-initial
     add-at-2
     wide-requires
     mul-at-2

@@ -6,7 +6,9 @@ use Rattle.table.proofs.read_end.Statement.{statement}
 use Rattle.table.proofs.read_end.Tie as tie
 
 ends-requires : tie.Need-ends-requires
-ends-requires c κs = end-near (c .before .args .s .now) (c .before .pre .0) (c .before .pre .2)
+ends-requires c κs =
+    let pre = c .before .pre in
+    end-near (c .before .args .s .now) (pre .0) (pre .1) (pre .2)
 
 faulty-node-requires : tie.Need-faulty-node-requires
 faulty-node-requires c κs =

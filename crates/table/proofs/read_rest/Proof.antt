@@ -16,20 +16,20 @@ enum-known-progress c = search needs
 refused-requires : tie.Need-refused-requires
 refused-requires c κs = search needs
 
-enum-told : tie.Need-enum-told
-enum-told c = search needs
+enum-known-progress-2 : tie.Need-enum-known-progress-2
+enum-known-progress-2 c = search needs
 
 read-end-requires : tie.Need-read-end-requires
 read-end-requires c κs =
-    let got = c .before .before .before in
-    let pre = got .before .before .pre in
-    (pre .0, pre .1, rw (c .before .enum-told .given .1) at (got .read-channels .ensures))
+    let start = c .before .before .before .before .before .before in
+    let got = c .before .before .before .before .read-channels in
+    (start .pre .0, start .pre .1, rw (c .before .before .progress2 .given .1) at (got .ensures))
 
 returns : tie.Need-returns
 returns c =
     let start = c .before .before .before .before .before .before in
     let got = c .before .before .before .before .read-channels in
-    refused-by-channels (start .args .s .now) (start .pre .0) (start .pre .1) (got .result .end) (got .result .arrays) (got .ensures) (c .before .before .progress .given .1) (c .refused .ensures)
+    refused-by-channels (start .args .s .now) (start .pre .0) (start .pre .1) (got .result .arrays) (got .ensures) (c .before .before .progress .given .1) (c .refused .ensures)
 
 returns-2 : tie.Need-returns-2
 returns-2 c = search needs
@@ -41,7 +41,7 @@ read-rest-spec =
     read-channels-requires
     enum-known-progress
     refused-requires
-    enum-told
+    enum-known-progress-2
     read-end-requires
     returns
     returns-2)

@@ -3,10 +3,10 @@
 use Prim.Native.Nat.{_≤_, _-_}
 use native.Mathlib.Omega.{arith}
 use mathlib.Core.Logic.{⊎-elim}
-use mathlib.Core.Path.{_≡_, _∙_}
+use mathlib.Core.Path.{_≡_, sym, _∙_}
 use Rattle.rules.specs.Lists.{total, count}
 use Rattle.table.specs.Reads.{servedBy}
-use Rattle.table.proofs.Ports.{served-more, served-else}
+use Rattle.table.proofs.Ports.{served-more, other-reader, other-port}
 use borrow.Author.Needs.{needs}
 use Rattle.table.proofs.served.Statement.{statement}
 use Rattle.table.proofs.served.Tie as tie
@@ -30,11 +30,11 @@ element-copy-out-wide c = search needs
 wide-requires : tie.Need-wide-requires Inv-loop μ-loop
 wide-requires c κs = search needs
 
-mul-if1 : tie.Need-mul-if1 Inv-loop μ-loop
-mul-if1 c = search needs
+mul-if2 : tie.Need-mul-if2 Inv-loop μ-loop
+mul-if2 c = search needs
 
-element-copy-out-if1 : tie.Need-element-copy-out-if1 Inv-loop μ-loop
-element-copy-out-if1 c = search needs
+element-copy-out-if2 : tie.Need-element-copy-out-if2 Inv-loop μ-loop
+element-copy-out-if2 c = search needs
 
 add-found : tie.Need-add-found Inv-loop μ-loop
 add-found c = search needs
@@ -47,21 +47,26 @@ loop-less c = search needs
 
 loop-again : tie.Need-loop-again Inv-loop μ-loop
 loop-again c =
-    let wide = c .before .before in
-    let turn = wide .before .before .before in
-    let args = turn .before .args in
-    let loop = turn .loop in
+    let args = c .before .before .before .before .before .args in
+    let turn = c .before .before .before .before .loop in
+    let read = c .before .wide .ensures in
     ⊎-elim
     (λ w. (
       omega arith,
-      w .1 ∙ served-more (args .reader .now) (args .port .now) (args .n) (args .p) (loop .c) (loop .found) (loop .inv .1) (wide .wide .ensures) (w .0 .taken),
+      w .3 ∙ served-more (args .reader .now) (args .port .now) (args .n) (args .p) (turn .c) (turn .found) (turn .inv .1) (sym read ∙ w .0 .taken) (w .2 .taken),
+      omega arith,
+    ))
+    (⊎-elim
+    (λ w. (
+      omega arith,
+      w .3 ∙ other-port (args .reader .now) (args .port .now) (args .n) (args .p) (turn .c) (turn .found) (turn .inv .1) (sym read ∙ w .0 .taken) (w .2 .left),
       omega arith,
     ))
     (λ w. (
       omega arith,
-      w .1 ∙ served-else (args .reader .now) (args .port .now) (args .n) (args .p) (loop .c) (loop .found) (loop .inv .1) (wide .wide .ensures) (w .0 .left),
+      w .1 ∙ other-reader (args .reader .now) (args .port .now) (args .n) (args .p) (turn .c) (turn .found) (turn .inv .1) (λ e. w .0 .left (read ∙ e)),
       omega arith,
-    ))
+    )))
     (c .if1 .came)
 
 returns : tie.Need-returns Inv-loop μ-loop
@@ -79,8 +84,8 @@ served-spec =
     mul-wide
     element-copy-out-wide
     wide-requires
-    mul-if1
-    element-copy-out-if1
+    mul-if2
+    element-copy-out-if2
     add-found
     add-c
     loop-less
