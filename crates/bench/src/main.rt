@@ -7,49 +7,11 @@
 ghost use mathlib.Core.Path.{_≡_};
 ghost use Prim.Native.Nat.{_+_, _*_, _≤_, _<_};
 ghost use lib.ListN.{length};
-ghost use Rattle.rules.specs.Refusals.{numberOf, placeOf};
 use libc::STDIN_FILENO;
 use libc::STDOUT_FILENO;
 use rules::Ran;
-use rules::Refusal;
 
 // ---- The answer
-
-// A refusal's number in the paper.
-fn number(why: Refusal) -> usize
-    ensures { λ r. ⌜ r ≡ numberOf why ⌝ }
-{
-    match why {
-        Refusal::BitsEnd(_) => 1,
-        Refusal::Version => 2,
-        Refusal::Counts => 3,
-        Refusal::NodeField(_) => 4,
-        Refusal::ChannelField(_) => 5,
-        Refusal::Capacities(_) => 6,
-        Refusal::Leftover => 7,
-        Refusal::Ports(_) => 8,
-        Refusal::Horizon => 9,
-        Refusal::Arrival(_) => 10,
-    }
-}
-
-// A refusal's place, or 0.
-fn place(why: Refusal) -> usize
-    ensures { λ r. ⌜ r ≡ placeOf why ⌝ }
-{
-    match why {
-        Refusal::BitsEnd(at) => at,
-        Refusal::Version => 0,
-        Refusal::Counts => 0,
-        Refusal::NodeField(node) => node,
-        Refusal::ChannelField(channel) => channel,
-        Refusal::Capacities(channel) => channel,
-        Refusal::Leftover => 0,
-        Refusal::Ports(node) => node,
-        Refusal::Horizon => 0,
-        Refusal::Arrival(index) => index,
-    }
-}
 
 // A blank and a number.
 fn and(n: usize) {
@@ -100,7 +62,7 @@ fn say(answer: Ran) {
             say_stop(12, instant, 0, count);
         }
         Ran::Refused(why) => {
-            say_refused(number(why), place(why));
+            say_refused(pieces::number_of(why), pieces::place_of(why));
         }
     }
 }

@@ -4,47 +4,9 @@
 ghost use mathlib.Core.Path.{_≡_};
 ghost use Prim.Native.Nat.{_+_, _≤_, _<_};
 ghost use lib.ListN.{length};
-ghost use Rattle.rules.specs.Refusals.{numberOf, placeOf};
 use libc::STDIN_FILENO;
 use libc::STDOUT_FILENO;
 use rules::Checked;
-use rules::Refusal;
-
-// A refusal's number in the paper.
-fn number(why: Refusal) -> usize
-    ensures { λ r. ⌜ r ≡ numberOf why ⌝ }
-{
-    match why {
-        Refusal::BitsEnd(_) => 1,
-        Refusal::Version => 2,
-        Refusal::Counts => 3,
-        Refusal::NodeField(_) => 4,
-        Refusal::ChannelField(_) => 5,
-        Refusal::Capacities(_) => 6,
-        Refusal::Leftover => 7,
-        Refusal::Ports(_) => 8,
-        Refusal::Horizon => 9,
-        Refusal::Arrival(_) => 10,
-    }
-}
-
-// A refusal's place, or 0.
-fn place(why: Refusal) -> usize
-    ensures { λ r. ⌜ r ≡ placeOf why ⌝ }
-{
-    match why {
-        Refusal::BitsEnd(at) => at,
-        Refusal::Version => 0,
-        Refusal::Counts => 0,
-        Refusal::NodeField(node) => node,
-        Refusal::ChannelField(channel) => channel,
-        Refusal::Capacities(channel) => channel,
-        Refusal::Leftover => 0,
-        Refusal::Ports(node) => node,
-        Refusal::Horizon => 0,
-        Refusal::Arrival(index) => index,
-    }
-}
 
 // A line of a word, which ends in a blank, and two numbers.
 fn line(word: &[u8], a: usize, b: usize) {
@@ -63,7 +25,7 @@ fn say(answer: Checked) {
         }
         Checked::Refused(why) => {
             let word = [b'r', b'e', b'f', b'u', b's', b'e', b'd', b' '];
-            line(&word, number(why), place(why));
+            line(&word, pieces::number_of(why), pieces::place_of(why));
         }
     }
 }
