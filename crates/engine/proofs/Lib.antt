@@ -1,14 +1,5 @@
-pub mod SetupLaws
-pub mod NextLaws
-pub mod WalkDownLaws
-pub mod StartFields
-pub mod StartRings
-pub mod StartHeld
-pub mod StartStands
-pub mod StartWires
-pub mod StartAble
-pub mod StartLaws
-pub mod EntryLaws
+pub mod ArrivalLaws
 pub mod RunLaws
 pub mod RunTurns
+pub mod EntryLaws
 pub mod Settled

@@ -14,13 +14,12 @@ use Rattle.rules.specs.Refusals.{outcome, ranSays}
 use Rattle.rules.proofs.InstantLaws.{instant-goes}
 use Rattle.rules.proofs.Reach.{sound}
 use Rattle.rules.proofs.Idle.{idle-stretch}
-use Rattle.engine.specs.declared.Machine.{Machine}
+use Rattle.layout.specs.Views.{nodesOf, shapeOf, cellsOf, pendingsOf}
+use Rattle.arrays.specs.Instants.{BeforeIn, WentOn}
+use Rattle.arrays.proofs.Skips.{Skipped, skips}
 use Rattle.steps.specs.declared.Step.{Step}
-use Rattle.steps.specs.Rings.{Cells}
-use Rattle.steps.specs.Nodes.{Pendings}
-use Rattle.steps.specs.Steps.{Before, WentOn, StepSays}
-use Rattle.engine.specs.Runs.{RunOf, shapeOf, wiresOf, waysOf}
-use Rattle.steps.proofs.Skips.{Skipped, skips}
+use Rattle.steps.specs.Steps.{StepSays}
+use Rattle.engine.specs.Runs.{RunOf}
 use Rattle.engine.proofs.RunLaws.{Runs, Progress, same-room, before-instant, then-reached}
 
 -- a run that has stopped stays so
@@ -42,8 +41,8 @@ words-behind words more before list after count many listed e =
     (ap (λ (n : ℕ). drop (n + k) (words ++ drop count before)) many ∙ drop-append-add words (drop count before) k ∙ drop-drop k count before) in
     rw (e, first, rest) (sym (append-assoc words more (drop (count + k) before)))
 
-module _ {net : Network} {m : Machine} {horizon : ℕ} {arrivals before list : List ℕ} {x : Cells} {p : Pendings} {t from count : ℕ}
-    (runs : Runs net m horizon arrivals) (so-far : Progress net m horizon arrivals before list x p t from count) where
+module _ {net : Network} {p s : List ℕ} {horizon : ℕ} {arrivals before list z : List ℕ} {t from count : ℕ}
+    (runs : Runs net p s horizon arrivals) (so-far : Progress net p horizon arrivals before list z t from count) where
   -- an instant stops the run
   stopped-run : {number channel : ℕ} {after : List ℕ} {r : Ran} → t ≤ horizon
       → (instant net arrivals (length list - count) t (so-far .st) ≡ stops number channel) × (after ≡ list)
@@ -57,17 +56,17 @@ module _ {net : Network} {m : Machine} {horizon : ℕ} {arrivals before list : L
       rw (at, said .1) (record { answer = says ∙ rw (so-far .many); list = rw (← so-far .many) (so-far .listed) })
 
   -- an instant goes on, and nothing happens up to the next one at which something may
-  goes-on : {after : List ℕ} {more next soon : ℕ} {y : Cells} {q : Pendings} → t ≤ horizon
-      → WentOn net arrivals (shapeOf m) t (so-far .st) list count after more next soon y q
-      → (suc t ≤ soon) × Progress net m horizon arrivals before after y q soon next (count + more)
-  goes-on {after} {more} {next} {soon} {y} {q} now on =
+  goes-on : {after y : List ℕ} {more next soon : ℕ} → t ≤ horizon
+      → WentOn net arrivals p t (so-far .st) list count after more next soon y
+      → (suc t ≤ soon) × Progress net p horizon arrivals before after y soon next (count + more)
+  goes-on {after} {y} {more} {next} {soon} now on =
       let words = so-far .words ++ on .words in
       let then : reached net arrivals (length before) (suc t) ≡ running words (on .state) = then-reached so-far (goes (on .words) (on .state)) (on .goesOn) in
       let room : length (on .words) ≤ length list - count =
       instant-goes net arrivals (length list - count) t (so-far .st) (on .words) (on .state) (on .goesOn) .fits in
-      let skipped : Skipped net arrivals (shapeOf m) next (suc t) soon (on .state) y q =
+      let skipped : Skipped net arrivals (shapeOf p) next (suc t) soon (on .state) (cellsOf y) (pendingsOf y) =
       rw (on .earliest)
-      (skips net arrivals (shapeOf m) next (suc t) (on .state) y q (runs .faultless) (omega (arith, runs .early))
+      (skips net arrivals (shapeOf p) next (suc t) (on .state) (cellsOf y) (pendingsOf y) (runs .faultless) (omega (arith, runs .early))
       (sound net arrivals (length before) (suc t) words (on .state) (runs .obeys) then) (on .represents) (on .cursor)) in (
         skipped .later,
         record {
@@ -83,7 +82,8 @@ module _ {net : Network} {m : Machine} {horizon : ℕ} {arrivals before list : L
           since = skipped .later;
           represents = skipped .represents;
           cursor = skipped .cursor;
-          sized = on .sized;
+          whole = on .whole;
+          paired = on .paired;
           many = rw length-append (omega (arith, so-far .many, on .many));
           fits = omega (arith, same-room so-far, so-far .fits, on .many);
           listed =
@@ -93,16 +93,15 @@ module _ {net : Network} {m : Machine} {horizon : ℕ} {arrivals before list : L
       )
 
   -- what the instant comes to, by what is said of it for every state
-  module _ (now : t ≤ horizon) (step : Step) (after : List ℕ) (y : Cells) (q : Pendings)
-      (told : (st : State) → m .nodes ≡ length (net .nodes) → Before net arrivals (shapeOf m) (wiresOf m) (waysOf m) from t st x p
-      → StepSays net arrivals (shapeOf m) t st list count step after y q) where
-    said : (is : Step) → step ≡ is → StepSays net arrivals (shapeOf m) t (so-far .st) list count is after y q
-    said is e = rw e at (told (so-far .st) (runs .starts .nodes) (before-instant so-far runs now))
+  module _ (now : t ≤ horizon) (step : Step) (after y : List ℕ)
+      (told : (st : State) → nodesOf p ≡ length (net .nodes) → BeforeIn net arrivals p from t st z → StepSays net arrivals p t st list count step after y) where
+    said : (is : Step) → step ≡ is → StepSays net arrivals p t (so-far .st) list count is after y
+    said is e = rw e at (told (so-far .st) (runs .starts .planned .nodes) (before-instant so-far runs now))
 
     pub moves-on : {more next soon : ℕ} → step ≡ Step.On more next soon → suc t ≤ soon
     moves-on {more} {next} {soon} e = goes-on now (said (Step.On more next soon) e) .0
 
-    pub progress-on : {more next soon : ℕ} → step ≡ Step.On more next soon → Progress net m horizon arrivals before after y q soon next (count + more)
+    pub progress-on : {more next soon : ℕ} → step ≡ Step.On more next soon → Progress net p horizon arrivals before after y soon next (count + more)
     progress-on {more} {next} {soon} e = goes-on now (said (Step.On more next soon) e) .1
 
     pub run-full : {channel i : ℕ} → step ≡ Step.Full channel → i ≡ t

@@ -5,7 +5,7 @@ use base.Logic.{emp}
 use borrow.Fn.Claims.{AllOf}
 use borrow.Fn.Read.{ReadAt, r-last, all-models, no-know}
 use borrow.Fn.World.{World, Pr, w₀}
-use Rattle.rules.proofs.Settle.{Told, Settled}
+use Rattle.rules.proofs.Settle.{Learns, Settled}
 use Rattle.fields.proofs as calls
 
 pub wide : Settled calls.wide.ended calls.wide.Reads.Learnt
@@ -32,13 +32,13 @@ module _ (clause : (w : World) → Pr w) (reading : (w : World) → ReadAt w (λ
   abbrev learnt : ((w : World) → reading w .owes ≡ reading w₀ .owes) → ((w : World) → reading w .tells ≡ reading w₀ .tells) → ((w : World) → reading w .wants ≡ reading w₀ .wants) → Type 0
   learnt owes tells wants = AllOf (all-models clause reading owes tells wants .tells)
 
-abbrev made-learnt : Told calls.made.ended
+abbrev made-learnt : Learns calls.made.ended
 made-learnt κs args r s = learnt (λ w. calls.made.clauses (w .𝓤) (w .H) (w .𝓖 .A) (w .𝓜 .mem) (w .𝓡 .run) κs args .ensures tt r s) (λ w. r-last _) (λ w. refl) (λ w. refl) (λ w. refl)
 
-abbrev moved-learnt : Told calls.moved.ended
+abbrev moved-learnt : Learns calls.moved.ended
 moved-learnt κs args r s = learnt (λ w. calls.moved.clauses (w .𝓤) (w .H) (w .𝓖 .A) (w .𝓜 .mem) (w .𝓡 .run) κs args .ensures tt r s) (λ w. r-last _) (λ w. refl) (λ w. refl) (λ w. refl)
 
-abbrev take-learnt : Told calls.take.ended
+abbrev take-learnt : Learns calls.take.ended
 take-learnt κs args r s = learnt (λ w. calls.take.clauses (w .𝓤) (w .H) (w .𝓖 .A) (w .𝓜 .mem) (w .𝓡 .run) κs args .ensures tt r s) (λ w. r-last _) (λ w. refl) (λ w. refl) (λ w. refl)
 
 pub made : Settled calls.made.ended made-learnt

@@ -8,7 +8,7 @@ use mathlib.Core.Path.{_≡_, sym}
 use lib.Dec.{eqb, leb}
 use lib.ListN.{length, set, take}
 use lib.Seq.{take-suc-set}
-use borrow.Author.Tests.{leb-true, lt-leb, le-leb}
+use borrow.Author.Tests.{leb-true, eqb-true, lt-leb, le-leb}
 use Rattle.rules.specs.Lists.{tab}
 use Rattle.rules.specs.Table.{fieldAt}
 use Rattle.rules.specs.Refusals.{refused}
@@ -47,6 +47,7 @@ pub record Frame (s : List ℕ) : Type 0 where
   pub long : 2 ≤ length s
   pub table : tableLength s ≤ 8191
   pub there : 5 + tableLength s ≤ length s
+  pub whole : arrivalBytes s % 8 ≡ 0
   pub few : arrivalBytes s / 8 ≤ 2048
 
 pub frame-of : (s : List ℕ) → framed s ≡ true → Frame s
@@ -64,6 +65,7 @@ frame-of s good =
       long = leb-true 2 (length s) (and-left a b first-two);
       table = leb-true (tableLength s) 8191 (and-right a b first-two);
       there = leb-true (5 + tableLength s) (length s) (and-right (a && b) c first-three);
+      whole = eqb-true (arrivalBytes s % 8) 0 (and-right (a && b && c) d first-four);
       few = leb-true (arrivalBytes s / 8) 2048 (and-right (a && b && c && d) e good);
     }
 

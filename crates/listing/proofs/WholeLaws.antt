@@ -20,52 +20,52 @@ use Rattle.rules.proofs.RefusalNumbers.{in-range, case-in-range, network-number
 use Rattle.listing.specs.Text.{wordLines, lastBy}
 
 -- a refusal has a number from 1 to 10, and a stop a higher one
-abbrev Told : Outcome → Type 0
-Told (refused number place) = (1 ≤ number) × (number ≤ 10)
-Told (stopped words number i channel) = 11 ≤ number
-Told (ended words) = Unit {0}
+abbrev WellNumbered : Outcome → Type 0
+WellNumbered (refused number place) = (1 ≤ number) × (number ≤ 10)
+WellNumbered (stopped words number i channel) = 11 ≤ number
+WellNumbered (ended words) = Unit {0}
 
-comes-told : {net : Network} {arrivals : List ℕ} {room t : ℕ} {st : State} {step : Step} (words : List ℕ) → Comes net arrivals room t st step → Told (outcome (stepped words t step))
-comes-told words (Comes.full c below over) = omega arith
-comes-told words Comes.crowded = omega arith
-comes-told words (Comes.on under fits) = tt
+comes-numbered : {net : Network} {arrivals : List ℕ} {room t : ℕ} {st : State} {step : Step} (words : List ℕ) → Comes net arrivals room t st step → WellNumbered (outcome (stepped words t step))
+comes-numbered words (Comes.full c below over) = omega arith
+comes-numbered words Comes.crowded = omega arith
+comes-numbered words (Comes.on under fits) = tt
 
 module _ (net : Network) (arrivals : List ℕ) (room : ℕ) where
-  onward-told : (t : ℕ) (earlier : Reached) → Told (outcome earlier) → Told (outcome (onward net arrivals room t earlier))
+  onward-numbered : (t : ℕ) (earlier : Reached) → WellNumbered (outcome earlier) → WellNumbered (outcome (onward net arrivals room t earlier))
   unfolding onward
-  onward-told t (running words st) told =
-      comes-told words (instant-comes net arrivals (room - length words) t st)
-  onward-told t (halted words number i channel) told = told
+  onward-numbered t (running words st) numbered =
+      comes-numbered words (instant-comes net arrivals (room - length words) t st)
+  onward-numbered t (halted words number i channel) numbered = numbered
 
-  reached-told : (t : ℕ) → Told (outcome (reached net arrivals room t))
+  reached-numbered : (t : ℕ) → WellNumbered (outcome (reached net arrivals room t))
   unfolding reached
-  reached-told zero = tt
-  reached-told (suc t) = onward-told t (reached net arrivals room t) (reached-told t)
+  reached-numbered zero = tt
+  reached-numbered (suc t) = onward-numbered t (reached net arrivals room t) (reached-numbered t)
 
-run-told : (table : List ℕ) (horizon : ℕ) (arrivals : List ℕ) (room : ℕ) → Told (run table horizon arrivals room)
-run-told table horizon arrivals room =
-    by-run Told table horizon arrivals room (λ number place e. in-range number (network-numbered table .from number place e)) (omega arith, omega arith)
-    (λ place. (omega arith, omega arith)) (λ net obeys soon faultless. reached-told net arrivals room (suc horizon))
+run-numbered : (table : List ℕ) (horizon : ℕ) (arrivals : List ℕ) (room : ℕ) → WellNumbered (run table horizon arrivals room)
+run-numbered table horizon arrivals room =
+    by-run WellNumbered table horizon arrivals room (λ number place e. in-range number (network-numbered table .from number place e)) (omega arith, omega arith)
+    (λ place. (omega arith, omega arith)) (λ net obeys soon faultless. reached-numbered net arrivals room (suc horizon))
 
 -- what an answer says tells the last line
-last-line : (horizon : ℕ) (r : Ran) (o : Outcome) → Told o → ranSays r ≡ runSays o → lastBy horizon r ≡ lastLine horizon o
+last-line : (horizon : ℕ) (r : Ran) (o : Outcome) → WellNumbered o → ranSays r ≡ runSays o → lastBy horizon r ≡ lastLine horizon o
 unfolding lastBy lastLine
-last-line horizon (Ran.End count) (refused number place) told e = absurd (omega (arith, ap (λ says. says .number) e))
-last-line horizon (Ran.End count) (stopped words number i channel) told e = absurd (omega (arith, ap (λ says. says .number) e))
-last-line horizon (Ran.End count) (ended words) told e = refl
-last-line horizon (Ran.Overfull count at full) (refused number place) told e = absurd (omega (arith, ap (λ says. says .number) e))
-last-line horizon (Ran.Overfull count at full) (stopped words number i channel) told e =
+last-line horizon (Ran.End count) (refused number place) numbered e = absurd (omega (arith, ap (λ says. says .number) e))
+last-line horizon (Ran.End count) (stopped words number i channel) numbered e = absurd (omega (arith, ap (λ says. says .number) e))
+last-line horizon (Ran.End count) (ended words) numbered e = refl
+last-line horizon (Ran.Overfull count at full) (refused number place) numbered e = absurd (omega (arith, ap (λ says. says .number) e))
+last-line horizon (Ran.Overfull count at full) (stopped words number i channel) numbered e =
     λ k. line (stopWord ∷ decimal (e k .number) ∷ decimal (e k .place) ∷ decimal (e k .channel) ∷ [])
-last-line horizon (Ran.Overfull count at full) (ended words) told e = absurd (omega (arith, ap (λ says. says .number) e))
-last-line horizon (Ran.NoRoom count at) (refused number place) told e = absurd (omega (arith, ap (λ says. says .number) e))
-last-line horizon (Ran.NoRoom count at) (stopped words number i channel) told e =
+last-line horizon (Ran.Overfull count at full) (ended words) numbered e = absurd (omega (arith, ap (λ says. says .number) e))
+last-line horizon (Ran.NoRoom count at) (refused number place) numbered e = absurd (omega (arith, ap (λ says. says .number) e))
+last-line horizon (Ran.NoRoom count at) (stopped words number i channel) numbered e =
     λ k. line (stopWord ∷ decimal (e k .number) ∷ decimal (e k .place) ∷ decimal (e k .channel) ∷ [])
-last-line horizon (Ran.NoRoom count at) (ended words) told e = absurd (omega (arith, ap (λ says. says .number) e))
-last-line horizon (Ran.Refused why) (refused number place) told e =
+last-line horizon (Ran.NoRoom count at) (ended words) numbered e = absurd (omega (arith, ap (λ says. says .number) e))
+last-line horizon (Ran.Refused why) (refused number place) numbered e =
     λ k. line (refusedWord ∷ decimal (e k .number) ∷ decimal (e k .place) ∷ [])
-last-line horizon (Ran.Refused why) (stopped words number i channel) told e =
+last-line horizon (Ran.Refused why) (stopped words number i channel) numbered e =
     absurd (omega (arith, ap (λ says. says .number) e, case-in-range why))
-last-line horizon (Ran.Refused why) (ended words) told e = absurd (omega (arith, ap (λ says. says .number) e, case-in-range why))
+last-line horizon (Ran.Refused why) (ended words) numbered e = absurd (omega (arith, ap (λ says. says .number) e, case-in-range why))
 
 count-of : (o : Outcome) → runSays o .count ≡ length (wordsOf o)
 count-of (refused number place) = refl
@@ -80,11 +80,11 @@ module _ {o : Outcome} {before after : List ℕ} {r : Ran} (ran : RunOf o before
   pub count-fits : ranSays r .count ≤ length after
   count-fits = omega (arith, answer-count, ap length (ran .list), length-append (wordsOf o) (drop (length (wordsOf o)) before))
 
-  run-lines : (horizon : ℕ) → Told o → wordLines after (ranSays r .count) ++ lastBy horizon r ≡ lines horizon o
+  run-lines : (horizon : ℕ) → WellNumbered o → wordLines after (ranSays r .count) ++ lastBy horizon r ≡ lines horizon o
   unfolding lines wordLines
-  run-lines horizon told =
+  run-lines horizon numbered =
       let words : take (ranSays r .count) after ≡ wordsOf o = rw (answer-count, ran .list) (take-append-seam (wordsOf o) (drop (length (wordsOf o)) before)) in
-      ap₂ _++_ (ap (λ ws. joined (map wordLine ws)) words) (last-line horizon r o told (ran .answer))
+      ap₂ _++_ (ap (λ ws. joined (map wordLine ws)) words) (last-line horizon r o numbered (ran .answer))
 
 -- the parts of an input, as they are read, and their run
 module _ (s : List ℕ) {table horizon : ℕ} (arrivals : List ℕ) (long : table ≡ tableLength s) (until : horizon ≡ bytesAt s (2 + table) 3)
@@ -102,4 +102,4 @@ module _ (s : List ℕ) {table horizon : ℕ} (arrivals : List ℕ) (long : tabl
   pub listing-of : framed s ≡ true → {before after : List ℕ} {r : Ran} → RunOf (run (take (2 + table - 2) (drop 2 s)) horizon (take ((length s - (5 + table)) / 8) arrivals) 2048) before after r → wordLines after (ranSays r .count) ++ lastBy horizon r ≡ listing s
   unfolding listing
   listing-of good ran =
-      rw (good, horizon-read) (run-lines (rw run-read at ran) (horizonIn s) (run-told (tableIn s) (horizonIn s) (arrivalsIn s) 2048))
+      rw (good, horizon-read) (run-lines (rw run-read at ran) (horizonIn s) (run-numbered (tableIn s) (horizonIn s) (arrivalsIn s) 2048))

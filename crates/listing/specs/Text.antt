@@ -1,6 +1,6 @@
 -- Bytes put into a text. Assumes nothing.
 use Prim.Native.Nat.{ℕ, _+_, _<_, _≤_}
-use mathlib.Core.List.{List, map}
+use mathlib.Core.List.{List, [], map}
 use mathlib.Core.Path.{_≡_}
 use lib.ListN.{length, take}
 use lib.Seq.{sets}
@@ -20,9 +20,9 @@ wordLines words count = joined (map wordLine (take count words))
 
 -- the last line by a run's answer
 unfoldable pub lastBy : ℕ → Ran → List ℕ
-lastBy horizon (Ran.End count) = lastLine horizon (ended mathlib.Core.List.[])
-lastBy horizon (Ran.Overfull count instant channel) = lastLine horizon (stopped mathlib.Core.List.[] 11 instant channel)
-lastBy horizon (Ran.NoRoom count instant) = lastLine horizon (stopped mathlib.Core.List.[] 12 instant 0)
+lastBy horizon (Ran.End count) = lastLine horizon (ended [])
+lastBy horizon (Ran.Overfull count instant channel) = lastLine horizon (stopped [] 11 instant channel)
+lastBy horizon (Ran.NoRoom count instant) = lastLine horizon (stopped [] 12 instant 0)
 lastBy horizon (Ran.Refused why) = lastLine horizon (refused (numberOf why) (placeOf why))
 
 -- the size of a text that holds the longest listing: 2,048 lines of at most 25 bytes, and a last line of at most 64

@@ -6,8 +6,8 @@ ghost use Prim.Native.Nat.{_+_, _-_, _*_, _/_, _%_, _≤_, _<_};
 ghost use lib.ListN.{length, take};
 ghost use Rattle.rules.specs.Lists.{tab};
 ghost use Rattle.rules.specs.Kinds.{signed};
-ghost use Rattle.rules.specs.Refusals.{numberOf, placeOf, refused as refusedAs, stopped as stoppedAs, ended as endedAs, ranSays};
-ghost use Rattle.rules.specs.Listing.{bytesAt, framed, decimal, signedDecimal, wordLine, lastLine, listing as listingRule};
+ghost use Rattle.rules.specs.Refusals.{numberOf, placeOf, refused, stopped, ended, ranSays};
+ghost use Rattle.rules.specs.Listing.{bytesAt, framed, decimal, signedDecimal, wordLine, lastLine, listing};
 ghost use Rattle.listing.specs.Text.{Put, wordLines, lastBy, size, Listed};
 use rules::Ran;
 use rules::Refusal;
@@ -85,9 +85,11 @@ fn put_word(text: &mut [u8], at: usize, w: u64) -> usize
     requires { ⌜ at + 25 ≤ length (now text) ⌝ }
     ensures { λ r. ⌜ Put (now (text .entry)) at (wordLine w) (now (text .exit)) r × (r ≤ at + 25) ⌝ }
 {
-    let a = put_part(text, at, w / 0x1_0000_0000 % 0x100_0000, b' ');
-    let b = put_part(text, a, w / 0x100_0000_0000_0000, b' ');
-    let c = put_token(text, b, (w % 0x1_0000_0000) as u32);
+    let time = fields::wide64(words::time_in(w));
+    let channel = words::channel_in(w) as u64;
+    let a = put_part(text, at, time, b' ');
+    let b = put_part(text, a, channel, b' ');
+    let c = put_token(text, b, words::value_in(w));
     put_byte(text, c, b'\n')
 }
 
@@ -108,7 +110,7 @@ fn put_words(text: &mut [u8], words: &[u64; 2048], count: usize) -> usize
 // Puts the line `refused` with number and place.
 fn put_refused(text: &mut [u8], at: usize, number: u64, place: usize) -> usize
     requires { ⌜ (at + 64 ≤ length (now text)) × (number < 100) ⌝ }
-    ensures { λ r. ⌜ Put (now (text .entry)) at (lastLine 0 (refusedAs number place)) (now (text .exit)) r ⌝ }
+    ensures { λ r. ⌜ Put (now (text .entry)) at (lastLine 0 (refused number place)) (now (text .exit)) r ⌝ }
 {
     let a = put(text, at, b"refused ");
     let b = put_part(text, a, number, b' ');
@@ -118,7 +120,7 @@ fn put_refused(text: &mut [u8], at: usize, number: u64, place: usize) -> usize
 // Puts the line `stop` with number, instant and channel.
 fn put_stop(text: &mut [u8], at: usize, number: u64, instant: usize, channel: usize) -> usize
     requires { ⌜ (at + 64 ≤ length (now text)) × (number < 100) ⌝ }
-    ensures { λ r. ⌜ Put (now (text .entry)) at (lastLine 0 (stoppedAs [] number instant channel)) (now (text .exit)) r ⌝ }
+    ensures { λ r. ⌜ Put (now (text .entry)) at (lastLine 0 (stopped [] number instant channel)) (now (text .exit)) r ⌝ }
 {
     let a = put(text, at, b"stop ");
     let b = put_part(text, a, number, b' ');
@@ -129,7 +131,7 @@ fn put_stop(text: &mut [u8], at: usize, number: u64, instant: usize, channel: us
 // Puts the line `end` and the horizon.
 fn put_end(text: &mut [u8], at: usize, horizon: usize) -> usize
     requires { ⌜ at + 64 ≤ length (now text) ⌝ }
-    ensures { λ r. ⌜ Put (now (text .entry)) at (lastLine horizon (endedAs [])) (now (text .exit)) r ⌝ }
+    ensures { λ r. ⌜ Put (now (text .entry)) at (lastLine horizon (ended [])) (now (text .exit)) r ⌝ }
 {
     let a = put(text, at, b"end ");
     put_part(text, a, horizon as u64, b'\n')
@@ -138,7 +140,7 @@ fn put_end(text: &mut [u8], at: usize, horizon: usize) -> usize
 // Puts the line of a refusal.
 fn put_refusal(text: &mut [u8], at: usize, why: Refusal) -> usize
     requires { ⌜ at + 64 ≤ length (now text) ⌝ }
-    ensures { λ r. ⌜ Put (now (text .entry)) at (lastLine 0 (refusedAs (numberOf why) (placeOf why))) (now (text .exit)) r ⌝ }
+    ensures { λ r. ⌜ Put (now (text .entry)) at (lastLine 0 (refused (numberOf why) (placeOf why))) (now (text .exit)) r ⌝ }
 {
     put_refused(
         text,
@@ -237,7 +239,7 @@ fn read_arrivals(s: &[u8], at: usize, count: usize, arrivals: &mut [u64; 2048])
 // The listing of a well framed input.
 fn list_run(s: &[u8], text: &mut [u8]) -> usize
     requires { ⌜ (framed (now s) ≡ true) × (size ≤ length (now text)) ⌝ }
-    ensures { λ r. ⌜ Put (now (text .entry)) 0 (listingRule (now (s .entry))) (now (text .exit)) r ⌝ }
+    ensures { λ r. ⌜ Put (now (text .entry)) 0 (listing (now (s .entry))) (now (text .exit)) r ⌝ }
 {
     let table = fields::wide(fields::field(s, 0, 16));
     let end = 2 + table;

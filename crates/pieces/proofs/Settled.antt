@@ -3,11 +3,10 @@
 use mathlib.Core.List.{[]}
 use mathlib.Core.Path.{_≡_, refl, _∙⁻¹_, Σ-path}
 use Rattle.rules.specs.declared.Refusal.{Refusal}
-use Rattle.rules.specs.Table as rules
-use Rattle.rules.specs.Table.{Reading, refusal, read}
+use Rattle.rules.specs.Table.{Reading, refusal, read, Header}
 use Rattle.rules.proofs.Settle.{Settled, Once, once-by, same}
 use Rattle.rules.proofs.SaysOnce.{numbered, refusal-found}
-use Rattle.pieces.specs.declared.Header.{Header}
+use Rattle.pieces.specs.declared.HeaderRead.{HeaderRead}
 use Rattle.pieces.specs.declared.NodeRead.{NodeRead}
 use Rattle.pieces.specs.declared.ChannelRead.{ChannelRead}
 use Rattle.pieces.specs.Says.{headerSays, nodeSays, channelSays}
@@ -19,11 +18,11 @@ found-by reads refused (read x) = reads x
 found-by reads refused (refusal number place) = numbered (refused Refusal.Version) refused place [] number
 
 header-says-once : Once headerSays
-header-says-once = once-by (found-by (λ h. Header.Counts (h .nodes) (h .channels)) Header.Refused) found
+header-says-once = once-by (found-by (λ h. HeaderRead.Counts (h .nodes) (h .channels)) HeaderRead.Refused) found
   where
-    found : (h : Header) → found-by (λ (h : rules.Header). Header.Counts (h .nodes) (h .channels)) Header.Refused (headerSays h) ≡ h
-    found (Header.Counts nodes channels) = refl
-    found (Header.Refused why) = refusal-found (Header.Refused Refusal.Version) Header.Refused [] why
+    found : (h : HeaderRead) → found-by (λ (h : Header). HeaderRead.Counts (h .nodes) (h .channels)) HeaderRead.Refused (headerSays h) ≡ h
+    found (HeaderRead.Counts nodes channels) = refl
+    found (HeaderRead.Refused why) = refusal-found (HeaderRead.Refused Refusal.Version) HeaderRead.Refused [] why
 
 node-says-once : Once nodeSays
 node-says-once = once-by (found-by NodeRead.Read NodeRead.Refused) found

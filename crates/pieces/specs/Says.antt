@@ -2,10 +2,9 @@
 use Rattle.rules.specs.declared.Node.{Node}
 use Rattle.rules.specs.declared.Channel.{Channel}
 use Rattle.rules.specs.declared.Refusal.{Refusal}
-use Rattle.rules.specs.Table as rules
-use Rattle.rules.specs.Table.{Reading, refusal, read}
+use Rattle.rules.specs.Table.{Reading, refusal, read, Header}
 use Rattle.rules.specs.Refusals.{numberOf, placeOf}
-use Rattle.pieces.specs.declared.Header.{Header}
+use Rattle.pieces.specs.declared.HeaderRead.{HeaderRead}
 use Rattle.pieces.specs.declared.NodeRead.{NodeRead}
 use Rattle.pieces.specs.declared.ChannelRead.{ChannelRead}
 
@@ -13,9 +12,9 @@ use Rattle.pieces.specs.declared.ChannelRead.{ChannelRead}
 abbrev pub refusedBy : {A : Type 0} → Refusal → Reading A
 refusedBy why = refusal (numberOf why) (placeOf why)
 
-abbrev pub headerSays : Header → Reading rules.Header
-headerSays (Header.Counts nodes channels) = read (record { nodes = nodes; channels = channels })
-headerSays (Header.Refused why) = refusedBy why
+abbrev pub headerSays : HeaderRead → Reading Header
+headerSays (HeaderRead.Counts nodes channels) = read (record { nodes = nodes; channels = channels })
+headerSays (HeaderRead.Refused why) = refusedBy why
 
 abbrev pub nodeSays : NodeRead → Reading Node
 nodeSays (NodeRead.Read node) = read node

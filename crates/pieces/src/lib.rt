@@ -12,7 +12,7 @@ use rules::Node;
 use rules::Refusal;
 
 // What a header comes to.
-pub enum Header {
+pub enum HeaderRead {
     Counts { nodes: usize, channels: usize },
     Refused(Refusal),
 }
@@ -73,7 +73,7 @@ fn counts_ok(nodes: usize, channels: usize) -> bool
     (1 <= nodes) & (nodes <= 32) & (channels <= 64)
 }
 
-pub fn read_header(s: &[u8]) -> Header
+pub fn read_header(s: &[u8]) -> HeaderRead
     ensures { λ r. ⌜ headerSays r ≡ headerAt (now (s .entry)) ⌝ }
 {
     if fields::there(s, 0, 24) {
@@ -82,13 +82,13 @@ pub fn read_header(s: &[u8]) -> Header
             let channels = fields::wide(fields::field(s, 10, 7));
             let spare = fields::field(s, 17, 7);
             if counts_ok(nodes, channels) & (spare == 0) {
-                return Header::Counts { nodes, channels };
+                return HeaderRead::Counts { nodes, channels };
             }
-            return Header::Refused(Refusal::Counts);
+            return HeaderRead::Refused(Refusal::Counts);
         }
-        return Header::Refused(Refusal::Version);
+        return HeaderRead::Refused(Refusal::Version);
     }
-    Header::Refused(Refusal::BitsEnd(0))
+    HeaderRead::Refused(Refusal::BitsEnd(0))
 }
 
 // ---- Nodes

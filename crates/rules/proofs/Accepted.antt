@@ -12,7 +12,7 @@ use Rattle.rules.specs.Table.{read, Channels, endsAt, faultyNode, networ
 use Rattle.rules.proofs.ListLaws.{lowest-is}
 use Rattle.rules.proofs.LongerLists.{at-any}
 use Rattle.rules.proofs.ReadingLaws.{Gives, then-gives, unless-gives, unless-then-gives}
-use Rattle.rules.proofs.Pieces.{header-read, nodes-read, ChannelsRead, channels-read}
+use Rattle.rules.proofs.Pieces.{header-read, nodes-read, LawfulChannels, channels-read}
 use Rattle.rules.proofs.TokenLaws.{AllFit, none-fit, entries-fit}
 
 -- every node's ports are served where no node is faulty
@@ -23,7 +23,7 @@ all-served net none n below =
     not-false (portsOk net n) (low .without n (omega arith))
 
 -- every token is in 32 bits
-tokens-fit : (nodes n : ℕ) (all : Channels) → ChannelsRead nodes n all → (c : ℕ) → AllFit (getD (all .tokens) c [])
+tokens-fit : (nodes n : ℕ) (all : Channels) → LawfulChannels nodes n all → (c : ℕ) → AllFit (getD (all .tokens) c [])
 tokens-fit nodes n all got =
     at-any (λ c. AllFit) (all .tokens) [] n (got .held)
     (λ c h.

@@ -34,8 +34,8 @@ nothing-arrives (w ∷ ws) t c without =
     rw (without 0 (omega arith)) (nothing-arrives ws t c (λ i h. without (suc i) (omega arith)))
 
 -- so where none is on channel c
-pub arriving-none : (ws : List ℕ) (t c : ℕ) → ((i : ℕ) → i < length ws → eqb (channelIn (getD ws i 0)) c ≡ false) → arriving ws t c ≡ []
-arriving-none ws t c without = nothing-arrives ws t c (λ i h. simp (without i h, and-false))
+pub nothing-arrives-on : (ws : List ℕ) (t c : ℕ) → ((i : ℕ) → i < length ws → eqb (channelIn (getD ws i 0)) c ≡ false) → arriving ws t c ≡ []
+nothing-arrives-on ws t c without = nothing-arrives ws t c (λ i h. simp (without i h, and-false))
 
 -- an arrival that is not faulty is on a channel that the outside writes
 faultless-outside : (net : Network) (arrivals : List ℕ) (i : ℕ) → arrivalFaulty net arrivals i ≡ false
@@ -48,7 +48,7 @@ faultless-outside net arrivals i h =
 pub node-alone : (net : Network) (arrivals : List ℕ) → Faultless net arrivals
     → (t c : ℕ) → eqb (channelOf net c .writer) outside ≡ false → arriving arrivals t c ≡ []
 node-alone net arrivals faultless t c inside =
-    arriving-none arrivals t c
+    nothing-arrives-on arrivals t c
     (λ i h.
     let on = channelIn (getD arrivals i 0) in
     by-test (eqb on c)
@@ -56,7 +56,7 @@ node-alone net arrivals faultless t c inside =
     (λ e. e))
 
 -- nor on one that the outside reads
-pub none-arrives : (net : Network) (arrivals : List ℕ) → Obeys net → Faultless net arrivals
+pub nothing-arrives-out : (net : Network) (arrivals : List ℕ) → Obeys net → Faultless net arrivals
     → (t c : ℕ) → c < length (net .channels) → isOut (channelOf net c) ≡ true → arriving arrivals t c ≡ []
-none-arrives net arrivals obeys faultless t c below out =
+nothing-arrives-out net arrivals obeys faultless t c below out =
     node-alone net arrivals faultless t c (fields-of net obeys c below .written out)

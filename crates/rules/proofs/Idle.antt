@@ -28,8 +28,8 @@ joined-empties f i zero empty = refl
 joined-empties f i (suc n) empty = rw (empty i) (joined-empties f (suc i) n empty)
 
 -- an arrival list has nothing for an instant at which no arrival stands
-pub none-arriving : (arrivals : List ℕ) (t c : ℕ) → ((i : ℕ) → i < length arrivals → eqb (timeIn (getD arrivals i 0)) t ≡ false) → arriving arrivals t c ≡ []
-none-arriving arrivals t c absent = nothing-arrives arrivals t c (λ i h. rw (absent i h))
+pub nothing-arrives-at : (arrivals : List ℕ) (t c : ℕ) → ((i : ℕ) → i < length arrivals → eqb (timeIn (getD arrivals i 0)) t ≡ false) → arriving arrivals t c ≡ []
+nothing-arrives-at arrivals t c absent = nothing-arrives arrivals t c (λ i h. rw (absent i h))
 
 not-due-yet : (w : Option Waiting) (t : ℕ) → isDue w t ≡ false → dueNow w t ≡ []
 not-due-yet none t h = refl
@@ -47,7 +47,7 @@ module _ (net : Network) (arrivals : List ℕ) (t : ℕ) (st : State) (well : So
   unfolding written
   nothing-written c =
       rw (not-due-yet (waitingOf st (channelOf net c .writer)) t (idle .noneDue (channelOf net c .writer)))
-      (none-arriving arrivals t c (idle .noArrival))
+      (nothing-arrives-at arrivals t c (idle .noArrival))
 
   nothing-held-anew : afterWrites net arrivals t st ≡ st .held
   unfolding afterWrites

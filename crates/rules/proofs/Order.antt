@@ -23,7 +23,7 @@ use Rattle.rules.proofs.ListLaws.{by-test}
 use Rattle.rules.proofs.RunCases.{by-run}
 use Rattle.rules.proofs.Sound.{Sound}
 use Rattle.rules.proofs.Reach.{sound}
-use Rattle.rules.proofs.Arrivals.{Faultless, none-arrives}
+use Rattle.rules.proofs.Arrivals.{Faultless, nothing-arrives-out}
 use Rattle.rules.proofs.WordLaws.{time-of-word, channel-of-word, word-fits, Rising, over, next, rising-within, rising-append, rising-joined, rising-at, rising-fits}
 
 -- v stands before w: by time, and within an instant by channel
@@ -91,7 +91,7 @@ module _ (net : Network) (arrivals : List ℕ) (obeys : Obeys net) (faultless : 
         let due = waitingOf st writer in
         let few : c < 2 ^ 8 = omega (arith, few-channels net obeys) in
         by-test (isOut (channelOf net c))
-        (λ e. rw (e, none-arrives net arrivals obeys faultless t c below e, append-nil (dueNow due t)) (due-in-place t c due few early (s .valueFits writer)))
+        (λ e. rw (e, nothing-arrives-out net arrivals obeys faultless t c below e, append-nil (dueNow due t)) (due-in-place t c due few early (s .valueFits writer)))
         (λ e. rw e (none-in-place t c))
 
     -- an instant's words rise, above those of the instants before

@@ -35,11 +35,11 @@ header-read s =
     unless-gives (countsOk (h .nodes) (h .channels) && eqb (fieldAt s 17 7) 0) 3 0 h (and-left _ _)))
 
 -- a node that was read: lawful fields and a constant in 32 bits
-pub record NodeRead (node : Node) : Type 0 where
+pub record LawfulNode (node : Node) : Type 0 where
   pub lawful : nodeOk node ≡ true
   pub fits : SFits w32 (node .constant)
 
-node-read : (s : List ℕ) (n : ℕ) → Gives NodeRead (nodePiece s n)
+node-read : (s : List ℕ) (n : ℕ) → Gives LawfulNode (nodePiece s n)
 unfolding nodePiece nodeAt
 node-read s n =
     let node = nodeAt s (24 + 69 * n) in
@@ -47,29 +47,29 @@ node-read s n =
     (λ there. unless-gives (nodeOk node) 4 n node (λ h. record { lawful = h; fits = token-fits s (24 + 69 * n + 37) }))
 
 -- as many nodes as were asked for, each lawful
-pub nodes-read : (s : List ℕ) (n : ℕ) → Gives (Entries NodeRead (nodeAmong [] 0) n) (nodesUpTo s n)
+pub nodes-read : (s : List ℕ) (n : ℕ) → Gives (Entries LawfulNode (nodeAmong [] 0) n) (nodesUpTo s n)
 unfolding nodesUpTo
 nodes-read s = entries-read (nodesUpTo s) (nodePiece s) refl (λ n. refl) (node-read s)
 
 -- as many tokens as were asked for, each in 32 bits
-abbrev pub TokensRead : ℕ → List ℤ → Type 0
-TokensRead n tokens = Entries (SFits w32) (pos 0) n tokens
+abbrev pub LawfulTokens : ℕ → List ℤ → Type 0
+LawfulTokens n tokens = Entries (SFits w32) (pos 0) n tokens
 
 token-read : (s : List ℕ) (at : ℕ) → Gives (SFits w32) (tokenPiece s at)
 unfolding tokenPiece
 token-read s at = unless-gives (leb (at + 32) (8 * length s)) 1 at (signed (fieldAt s at 32)) (λ there. token-fits s at)
 
-pub tokens-read : (s : List ℕ) (at n : ℕ) → Gives (TokensRead n) (tokensUpTo s at n)
+pub tokens-read : (s : List ℕ) (at n : ℕ) → Gives (LawfulTokens n) (tokensUpTo s at n)
 unfolding tokensUpTo
 tokens-read s at = entries-read (tokensUpTo s at) (λ n. tokenPiece s (at + 32 * n)) refl (λ n. refl) (λ n. token-read s (at + 32 * n))
 
 -- a channel that was read behind others: lawful fields, and not too much capacity together with theirs
-pub record ChannelRead (nodes before : ℕ) (ch : Channel) : Type 0 where
+pub record LawfulChannel (nodes before : ℕ) (ch : Channel) : Type 0 where
   pub lawful : channelOk nodes ch ≡ true
   pub inBits : InBits ch
   pub enough : before + ch .capacity ≤ 1024
 
-pub channel-read : (s : List ℕ) (nodes c at before : ℕ) → Gives (ChannelRead nodes before) (channelPiece s nodes c at before)
+pub channel-read : (s : List ℕ) (nodes c at before : ℕ) → Gives (LawfulChannel nodes before) (channelPiece s nodes c at before)
 unfolding channelPiece channelAt
 channel-read s nodes c at before =
     let ch = channelAt s at in
@@ -89,17 +89,17 @@ channel-read s nodes c at before =
 pub record Filled (nodes : ℕ) (ch : Channel) (tokens : List ℤ) : Type 0 where
   pub lawful : channelOk nodes ch ≡ true
   pub inBits : InBits ch
-  pub initially : TokensRead (ch .initial) tokens
+  pub initially : LawfulTokens (ch .initial) tokens
 
 -- channels that were read: as many as were asked for, each lawful with its tokens, and their capacities together at most 1024
-pub record ChannelsRead (nodes n : ℕ) (all : Channels) : Type 0 where
+pub record LawfulChannels (nodes n : ℕ) (all : Channels) : Type 0 where
   pub count : length (all .channels) ≡ n
   pub held : length (all .tokens) ≡ n
   pub each : (c : ℕ) → c < length (all .channels) → Filled nodes (channelAmong (all .channels) c) (getD (all .tokens) c [])
   pub sum : total (length (all .channels)) (λ c. channelAmong (all .channels) c .capacity) ≡ all .together
   pub enough : all .together ≤ 1024
 
-pub channels-read : (s : List ℕ) (nodes n : ℕ) → Gives (ChannelsRead nodes n) (channelsUpTo s nodes n)
+pub channels-read : (s : List ℕ) (nodes n : ℕ) → Gives (LawfulChannels nodes n) (channelsUpTo s nodes n)
 unfolding channelsUpTo withChannel
 channels-read s nodes zero =
     read-gives

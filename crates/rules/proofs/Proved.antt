@@ -7,8 +7,8 @@ use Rattle.rules.specs.Lists.{tabFrom, tab, joined, lastOf, total, count
 use Rattle.rules.specs.Kinds.{sum, difference, smaller, larger, quotient, ones, firstBeam, inputs, result, constantOk}
 use Rattle.rules.specs.Network.{countsOk, nodeOk, channelOk, capacities, portsOk}
 use Rattle.rules.specs.Table.{fieldAt, headerAt, nodeAt, nodePiece, nodesUpTo, channelAt, tokenPiece, tokensUpTo, withChannel, channelPiece, channelsUpTo, endsAt, faultyNode, network}
-use Rattle.rules.specs.Instant.{initial, arriving, written, keeping, afterWrites, outWords, ready, goesAhead, inputAt, resultOf, waitingAfter, heldAfter, afterReads, judged, instant, onward, reached}
-use Rattle.rules.specs.Refusals.{check, arrivalFaulty, faultyArrival, run}
+use Rattle.rules.specs.Instant.{atStart, arriving, written, keeping, afterWrites, outWords, ready, goesAhead, inputAt, resultOf, waitingAfter, heldAfter, afterReads, judged, instant, onward, reached}
+use Rattle.rules.specs.Refusals.{check, arrivalFaulty, faultyArrival, allowed, runFrom, run}
 use Rattle.rules.specs.Listing.{framed, digits, decimal, signedDecimal, line, wordLine, lastLine, lines, listing}
 use Rattle.rules.specs.Bench.{Case, answer, bench, slips}
 
@@ -17,5 +17,5 @@ abbrev AsSaid : List Case → Type 0
 AsSaid cases = map (λ case. answer (case .asked)) cases ≡ map (λ case. case .said) cases
 
 pub proved : AsSaid bench × AsSaid slips
-unfolding onesIn leadingZeros tabFrom tab joined lastOf total count every lowest sum difference smaller larger quotient ones firstBeam inputs result constantOk countsOk nodeOk channelOk capacities portsOk fieldAt headerAt nodeAt nodePiece nodesUpTo channelAt tokenPiece tokensUpTo withChannel channelPiece channelsUpTo endsAt faultyNode network initial arriving written keeping afterWrites outWords ready goesAhead inputAt resultOf waitingAfter heldAfter afterReads judged instant onward reached check arrivalFaulty faultyArrival run framed digits decimal signedDecimal line wordLine lastLine lines listing answer
+unfolding onesIn leadingZeros tabFrom tab joined lastOf total count every lowest sum difference smaller larger quotient ones firstBeam inputs result constantOk countsOk nodeOk channelOk capacities portsOk fieldAt headerAt nodeAt nodePiece nodesUpTo channelAt tokenPiece tokensUpTo withChannel channelPiece channelsUpTo endsAt faultyNode network atStart arriving written keeping afterWrites outWords ready goesAhead inputAt resultOf waitingAfter heldAfter afterReads judged instant onward reached check arrivalFaulty faultyArrival allowed runFrom run framed digits decimal signedDecimal line wordLine lastLine lines listing answer
 proved = (refl, refl)

@@ -7,7 +7,7 @@ use mathlib.Core.Option.{Option, none}
 use mathlib.Core.Path.{_≡_, subst}
 use lib.ListN.{length}
 use Rattle.rules.specs.Network.{Network, Obeys, nodeOf, channelOf}
-use Rattle.rules.specs.Instant.{Waiting, State, waitingOf, heldIn, initial, dueNow, arriving, written, afterWrites, overfull, goesAhead, heldAfter, afterReads, running, reached}
+use Rattle.rules.specs.Instant.{Waiting, State, waitingOf, heldIn, atStart, dueNow, arriving, written, afterWrites, overfull, goesAhead, heldAfter, afterReads, running, reached}
 use Rattle.rules.proofs.Checks.{fields-of}
 use Rattle.rules.proofs.InstantLaws.{length-writes, writes-at, length-waiting, waiting-at, length-held, held-at, Came, reached-came}
 use Rattle.rules.proofs.ListLaws.{length-tab, getD-tab}
@@ -34,10 +34,10 @@ sound-by net t st nodes channels waits holds =
       tokenFits = λ c. fit c .at;
     }
 
-pub initial-sound : (net : Network) → Obeys net → Sound net 0 (initial net)
-unfolding initial
-initial-sound net obeys =
-    sound-by net 0 (initial net) (length-tab (length (net .nodes)) (λ n. none)) (obeys .held)
+pub start-sound : (net : Network) → Obeys net → Sound net 0 (atStart net)
+unfolding atStart
+start-sound net obeys =
+    sound-by net 0 (atStart net) (length-tab (length (net .nodes)) (λ n. none)) (obeys .held)
     (λ n below. rw (getD-tab {A = Option Waiting} (length (net .nodes)) (λ m. none) n none below) tt)
     (λ c below.
     initial-holds (channelOf net c) (heldIn (net .tokens) c) (fields-of net obeys c below) (obeys .initially c below)
@@ -97,8 +97,8 @@ module _ (net : Network) (arrivals : List ℕ) (t : ℕ) (st : State) (obeys : O
 pub sound : (net : Network) (arrivals : List ℕ) (room t : ℕ) (words : List ℕ) (st : State) → Obeys net → reached net arrivals room t ≡ running words st → Sound net t st
 unfolding reached
 sound net arrivals room zero words st obeys e =
-    let same : initial net ≡ st = cc in
-    rw (← same) (initial-sound net obeys)
+    let same : atStart net ≡ st = cc in
+    rw (← same) (start-sound net obeys)
 sound net arrivals room (suc t) words st obeys e =
     let came : Came net arrivals room t st = reached-came net arrivals room t words st e in
     let before = sound net arrivals room t (came .before) (came .old) obeys (came .running) in

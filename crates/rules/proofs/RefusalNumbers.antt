@@ -1,9 +1,8 @@
 -- Refusals have the paper's numbers, 1 to 10: the cases of an answer, and what the reading of a table is refused by. Assumes nothing.
 use Prim.Native.Nat.{ℕ, zero, suc, _+_, _*_, _≤_}
-use native.Mathlib.Omega.{arith}
 use mathlib.Core.Bool.{Bool, true, false, _&&_}
 use mathlib.Core.List.{List}
-use mathlib.Core.Path.{_≡_, refl}
+use mathlib.Core.Path.{_≡_, refl, sym}
 use lib.Dec.{eqb, leb, ltb}
 use lib.ListN.{length}
 use borrow.Author.Tests.{ltb-true, leb-true}
@@ -13,6 +12,7 @@ use Rattle.rules.specs.Network.{Network, countsOk, nodeOk, channelOk}
 use Rattle.rules.specs.Refusals.{numberOf}
 use Rattle.rules.specs.Table.{Reading, refusal, read, _then_, unless, fieldAt, Header, headerAt, nodeAt, nodePiece, nodesUpTo, tokenPiece, tokensUpTo, channelAt, channelPiece, channelsUpTo, endsAt, faultyNode, network}
 use Rattle.rules.proofs.ListLaws.{and-left, and-right}
+use Rattle.rules.proofs.ReadingLaws.{refused-or-read, by-reading}
 
 -- a number from 1 to 10
 abbrev pub isNumber : ℕ → Bool
@@ -44,17 +44,14 @@ pub record Numbered {A : Type 0} (r : Reading A) : Type 0 where
   pub from : (number place : ℕ) → r ≡ refusal number place → isNumber number ≡ true
 
 read-numbered : {A : Type 0} {a : A} → Numbered (read a)
-read-numbered = record { from = λ number place e. let z : _≡_ {A = ℕ} 0 1 = cc in absurd (omega arith) }
+read-numbered = record { from = λ number place e. refused-or-read (sym e) }
 
 refusal-numbered : {A : Type 0} (number place : ℕ) → isNumber number ≡ true → Numbered {A = A} (refusal number place)
 refusal-numbered number place h = record { from = λ m p e. cc }
 
 then-numbered : {A B : Type 0} {r : Reading A} {go : A → Reading B} → Numbered r → ((a : A) → Numbered (go a)) → Numbered (r then go)
-then-numbered {A} {B} {r} {go} first rest = by-reading r first
-  where
-    by-reading : (r : Reading A) → Numbered r → Numbered (r then go)
-    by-reading (refusal number place) first = refusal-numbered number place (first .from number place refl)
-    by-reading (read a) first = rest a
+then-numbered {r = r} first rest =
+    by-reading r (λ number place e. rw e (refusal-numbered number place (first .from number place e))) (λ a e. rw e (rest a))
 
 -- a test, and then the rest
 unless-numbered : {A B : Type 0} (test : Bool) (number place : ℕ) (a : A) (go : A → Reading B) → isNumber number ≡ true → Numbered (go a) → Numbered (unless test number place a then go)

@@ -9,7 +9,7 @@ use borrow.Author.Tests.{leb-true}
 use Rattle.rules.specs.Network.{Network, Obeys}
 use Rattle.rules.specs.Table.{refusal, network}
 use Rattle.rules.specs.Instant.{reached}
-use Rattle.rules.specs.Refusals.{faultyArrival, Outcome, refused, outcome, run}
+use Rattle.rules.specs.Refusals.{faultyArrival, Outcome, refused, outcome, allowed, runFrom, run}
 use Rattle.rules.proofs.Accepted.{accepted}
 use Rattle.rules.proofs.Arrivals.{Faultless, faultless-arrivals}
 use Rattle.rules.proofs.ListLaws.{by-test}
@@ -21,7 +21,7 @@ pub by-run : (P : Outcome → Type 0) (table : List ℕ) (horizon : ℕ) (arriva
     → ((place : ℕ) → P (refused 10 place))
     → ((net : Network) → Obeys net → horizon ≤ 16777215 → Faultless net arrivals → P (outcome (reached net arrivals room (suc horizon))))
     → P (run table horizon arrivals room)
-unfolding run
+unfolding run runFrom allowed
 by-run P table horizon arrivals room unread late faulty runs =
     by-reading (network table) (λ number place e. rw e (unread number place e))
     (λ net e.

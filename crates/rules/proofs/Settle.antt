@@ -6,20 +6,20 @@ use denote.Triple.Entry.{Args, Res}
 use denote.Triple.Clauses.{Ended, AtExit, Lasts, atExit}
 
 -- what a call with these lifetimes and arguments comes to: its result, and what each `&mut` that it was lent holds at its exit
-abbrev pub Outcome : (T : Ended) (κs : Lfts (T .signature .lifetimes)) → Args (T .signature) κs → Type 0
-Outcome T κs args = Res (T .signature) κs × Lasts T κs args
+abbrev pub CallOutcome : (T : Ended) (κs : Lfts (T .signature .lifetimes)) → Args (T .signature) κs → Type 0
+CallOutcome T κs args = Res (T .signature) κs × Lasts T κs args
 
 -- what a caller learns from a contract: of the arguments, the result, and the parameters at the exit
-abbrev pub Told : Ended → Type 1
-Told T =
+abbrev pub Learns : Ended → Type 1
+Learns T =
     (κs : Lfts (T .signature .lifetimes)) → Args (T .signature) κs → Res (T .signature) κs → AtExit T κs → Type 0
 
--- whatever the arguments, any two outcomes of which it is told are equal
-abbrev pub Settled : (T : Ended) → Told T → Type 0
-Settled T told =
-    (κs : Lfts (T .signature .lifetimes)) (args : Args (T .signature) κs) (o p : Outcome T κs args)
-    → told κs args (o .0) (atExit T κs args (o .1))
-    → told κs args (p .0) (atExit T κs args (p .1))
+-- whatever the arguments, any two outcomes of which this is learnt are equal
+abbrev pub Settled : (T : Ended) → Learns T → Type 0
+Settled T learnt =
+    (κs : Lfts (T .signature .lifetimes)) (args : Args (T .signature) κs) (o p : CallOutcome T κs args)
+    → learnt κs args (o .0) (atExit T κs args (o .1))
+    → learnt κs args (p .0) (atExit T κs args (p .1))
     → o ≡ p
 
 -- no two values say the same

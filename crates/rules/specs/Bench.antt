@@ -22,7 +22,7 @@ pub data Question : Type 0 where
   -- the run of a network, likewise
   networkRun : (net : Network) (horizon : ℕ) (arrivals : List ℕ) (room : ℕ) → Question
   -- the result of a kind with constant k on inputs a, b and c
-  resultOf : (kind : ℕ) (k a b c : ℤ) → Question
+  kindResult : (kind : ℕ) (k a b c : ℤ) → Question
 
 -- what the rules say, or should say
 pub data Answer : Type 0 where
@@ -42,7 +42,7 @@ answer (listingOf input) = bytes (listing input)
 answer (checkOf table) = checks (check table)
 answer (runOf table horizon arrivals room) = runs (run table horizon arrivals room)
 answer (networkRun net horizon arrivals room) = runs (outcome (reached net arrivals room (suc horizon)))
-answer (resultOf kind k a b c) = gives (result kind k a b c)
+answer (kindResult kind k a b c) = gives (result kind k a b c)
 
 abbrev minus : ℕ → ℤ
 minus n = negsuc (Prim.Native.Nat.pred n)
@@ -88,15 +88,15 @@ bench =
     ∷ record { asked = checkOf (tableP []); said = checks (record { number = 1; place = 93; nodes = 0; channels = 0 }) }
     ∷ record { asked = checkOf (tableP (0x00 ∷ 0x00 ∷ [])); said = checks (record { number = 7; place = 0; nodes = 0; channels = 0 }) }
     ∷ record { asked = checkOf []; said = checks (record { number = 1; place = 0; nodes = 0; channels = 0 }) }
-    ∷ record { asked = resultOf 2 (pos 1) (pos 2147483647) (pos 0) (pos 0); said = gives (some (minus 2147483648)) }
-    ∷ record { asked = resultOf 3 (pos 0) (pos 2147483647) (pos 1) (pos 0); said = gives (some (minus 2147483648)) }
-    ∷ record { asked = resultOf 7 (pos 2) (minus 7) (pos 0) (pos 0); said = gives (some (minus 3)) }
-    ∷ record { asked = resultOf 7 (minus 2) (pos 7) (pos 0) (pos 0); said = gives (some (minus 3)) }
-    ∷ record { asked = resultOf 10 (pos 0) (minus 1) (pos 0) (pos 0); said = gives (some (pos 32)) }
-    ∷ record { asked = resultOf 10 (pos 0) (pos 0) (pos 0) (pos 0); said = gives (some (pos 0)) }
-    ∷ record { asked = resultOf 11 (pos 0) (pos 1) (pos 0) (pos 0); said = gives (some (pos 31)) }
-    ∷ record { asked = resultOf 11 (pos 0) (minus 1) (pos 0) (pos 0); said = gives (some (pos 0)) }
-    ∷ record { asked = resultOf 11 (pos 0) (pos 0) (pos 0) (pos 0); said = gives (some (pos 32)) }
+    ∷ record { asked = kindResult 2 (pos 1) (pos 2147483647) (pos 0) (pos 0); said = gives (some (minus 2147483648)) }
+    ∷ record { asked = kindResult 3 (pos 0) (pos 2147483647) (pos 1) (pos 0); said = gives (some (minus 2147483648)) }
+    ∷ record { asked = kindResult 7 (pos 2) (minus 7) (pos 0) (pos 0); said = gives (some (minus 3)) }
+    ∷ record { asked = kindResult 7 (minus 2) (pos 7) (pos 0) (pos 0); said = gives (some (minus 3)) }
+    ∷ record { asked = kindResult 10 (pos 0) (minus 1) (pos 0) (pos 0); said = gives (some (pos 32)) }
+    ∷ record { asked = kindResult 10 (pos 0) (pos 0) (pos 0) (pos 0); said = gives (some (pos 0)) }
+    ∷ record { asked = kindResult 11 (pos 0) (pos 1) (pos 0) (pos 0); said = gives (some (pos 31)) }
+    ∷ record { asked = kindResult 11 (pos 0) (minus 1) (pos 0) (pos 0); said = gives (some (pos 0)) }
+    ∷ record { asked = kindResult 11 (pos 0) (pos 0) (pos 0) (pos 0); said = gives (some (pos 32)) }
     ∷ record { asked = runOf tableRegister 20 (word 0 10 (pos 9) ∷ []) 2048; said = runs (ended (word 1 10 (pos 5) ∷ word 1 20 (pos 9) ∷ [])) }
     ∷ []
 

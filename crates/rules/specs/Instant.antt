@@ -42,8 +42,8 @@ abbrev pub heldIn : List (List ℤ) → ℕ → List ℤ
 heldIn held c = getD held c []
 
 -- at the start nothing waits, and each channel holds its initial tokens
-unfoldable pub initial : Network → State
-initial net = record { waiting = tab (length (net .nodes)) (λ n. none); held = net .tokens }
+unfoldable pub atStart : Network → State
+atStart net = record { waiting = tab (length (net .nodes)) (λ n. none); held = net .tokens }
 
 -- Step 1: writes
 
@@ -180,7 +180,7 @@ onward net arrivals room t (halted words number i channel) = halted words number
 
 -- how far a run has come before instant t
 unfoldable pub reached : Network → List ℕ → ℕ → ℕ → Reached
-reached net arrivals room zero = running [] (initial net)
+reached net arrivals room zero = running [] (atStart net)
 reached net arrivals room (suc t) = onward net arrivals room t (reached net arrivals room t)
 
 -- The history

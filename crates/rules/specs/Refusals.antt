@@ -58,15 +58,21 @@ abbrev pub finish : Reading Network → (Network → Outcome) → Outcome
 finish (refusal number place) go = refused number place
 finish (read net) go = go net
 
--- a run of a table's bytes from instant 0 to the horizon, both included, with so much room for words: 1 to 8, then 9, then 10, then
--- the instants
+-- a network may run to a horizon with these arrivals: 9, then 10
+unfoldable pub allowed : ℕ → List ℕ → Network → Reading Network
+allowed horizon arrivals net =
+    unless (leb horizon 16777215) 9 0 net
+    then λ net. unless (eqb (faultyArrival net arrivals) (length arrivals)) 10 (faultyArrival net arrivals) net
+
+-- a run of what a table was read as: its refusal, then 9 and 10, then the instants from 0 to the horizon, both included, with so much
+-- room for words
+unfoldable pub runFrom : Reading Network → ℕ → List ℕ → ℕ → Outcome
+runFrom reading horizon arrivals room =
+    finish (reading then allowed horizon arrivals) (λ net. outcome (reached net arrivals room (suc horizon)))
+
+-- a run of a table's bytes: 1 to 8 first
 unfoldable pub run : List ℕ → ℕ → List ℕ → ℕ → Outcome
-run table horizon arrivals room =
-    finish
-    (network table
-    then λ net. unless (leb horizon 16777215) 9 0 net
-    then λ net. unless (eqb (faultyArrival net arrivals) (length arrivals)) 10 (faultyArrival net arrivals) net)
-    (λ net. outcome (reached net arrivals room (suc horizon)))
+run table horizon arrivals room = runFrom (network table) horizon arrivals room
 
 -- the words of a run; a refused one has none
 abbrev pub wordsOf : Outcome → List ℕ

@@ -1,5 +1,5 @@
 -- What the promise of an instant settles: for a network and a state that the arrays stand for, two outcomes have the same answer and the same list.
--- Each of a run's arrays is settled in what it stands for: where the arrivals go on, each node's next release and due instant. Assumes nothing.
+-- The state is settled in what it stands for: where the arrivals go on, each node's next release and due instant. Assumes nothing.
 use Prim.Native.Nat.{ℕ, zero, suc, _+_, _≤_, _<_, min}
 use native.Mathlib.Omega.{arith}
 use mathlib.Core.List.{List, [], _++_}
@@ -14,12 +14,14 @@ use Rattle.rules.specs.Instant as rules
 use Rattle.rules.specs.Instant.{State, Waiting, stops, goes}
 use Rattle.rules.proofs.ListLaws.{by-test}
 use Rattle.steps.specs.declared.Step.{Step}
-use Rattle.steps.specs.Rings.{Shape, Cells}
-use Rattle.steps.specs.Writes.{never, arrivalAt}
-use Rattle.steps.specs.Nodes.{Pendings, waitingBy, soonAt, soonest}
-use Rattle.steps.specs.Represents.{NextRelease, Represents, Cursor}
-use Rattle.steps.specs.Steps.{WentOn, StepSays}
-use Rattle.steps.proofs.ReleaseLaws.{multiples-apart}
+use Rattle.layout.specs.Views.{Shape, Cells, Pendings, shapeOf, cellsOf, pendingsOf}
+use Rattle.kinds.specs.Nodes.{never, waitingBy}
+use Rattle.arrays.specs.Writes.{arrivalAt}
+use Rattle.arrays.specs.Nodes.{soonAt, soonest}
+use Rattle.arrays.specs.Represents.{NextRelease, Represents, Cursor}
+use Rattle.arrays.specs.Instants.{WentOn}
+use Rattle.steps.specs.Steps.{StepSays}
+use Rattle.arrays.proofs.ReleaseLaws.{multiples-apart}
 
 -- a node has one next release from an instant on
 next-once : (node : Node) (t a b : ℕ) → NextRelease node t a → NextRelease node t b → a ≡ b
@@ -73,9 +75,9 @@ abbrev numberIn : rules.Step → ℕ
 numberIn (stops number channel) = number
 numberIn (goes words state) = 0
 
-abbrev channelIn : rules.Step → ℕ
-channelIn (stops number channel) = channel
-channelIn (goes words state) = 0
+abbrev channelAt : rules.Step → ℕ
+channelAt (stops number channel) = channel
+channelAt (goes words state) = 0
 
 abbrev wordsIn : rules.Step → List ℕ
 wordsIn (stops number channel) = []
@@ -85,8 +87,8 @@ abbrev stateIn : State → rules.Step → State
 stateIn st (stops number channel) = st
 stateIn st (goes words state) = state
 
-module _ (net : Network) (arrivals : List ℕ) (s : Shape) (t : ℕ) (st : State) (out : List ℕ) (count : ℕ) (after list : List ℕ) (x y : Cells) (p q : Pendings) where
-  went-on-once : (more next soon many on moment : ℕ) → WentOn net arrivals s t st out count after more next soon x p → WentOn net arrivals s t st out count list many on moment y q
+module _ (net : Network) (arrivals p : List ℕ) (t : ℕ) (st : State) (out : List ℕ) (count : ℕ) (after list y z : List ℕ) where
+  went-on-once : (more next soon many on moment : ℕ) → WentOn net arrivals p t st out count after more next soon y → WentOn net arrivals p t st out count list many on moment z
       → (Step.On more next soon ≡ Step.On many on moment) × (after ≡ list)
   went-on-once more next soon many on moment one other =
       let same : goes (one .words) (one .state) ≡ goes (other .words) (other .state) = sym (one .goesOn) ∙ other .goesOn in
@@ -94,17 +96,17 @@ module _ (net : Network) (arrivals : List ℕ) (s : Shape) (t : ℕ) (st : State
       let state : one .state ≡ other .state = ap (stateIn st) same in
       let count-once : more ≡ many = sym (one .many) ∙ ap length words ∙ other .many in
       let next-index : next ≡ on = cursor-once arrivals next on (suc t) (one .cursor) (other .cursor) in
-      let represents : Represents net s (suc t) (other .state) x p = rw state at (one .represents) in
+      let represents : Represents net (shapeOf p) (suc t) (other .state) (cellsOf y) (pendingsOf y) = rw state at (one .represents) in
       let moment-once : soon ≡ moment =
-      one .earliest ∙ ap (λ i. soonest p (arrivalAt arrivals i) (length (net .nodes))) next-index
-      ∙ soonest-once net s (suc t) (other .state) x y p q represents (other .represents) (arrivalAt arrivals on) (length (net .nodes)) (omega arith)
+      one .earliest ∙ ap (λ i. soonest (pendingsOf y) (arrivalAt arrivals i) (length (net .nodes))) next-index
+      ∙ soonest-once net (shapeOf p) (suc t) (other .state) (cellsOf y) (cellsOf z) (pendingsOf y) (pendingsOf z) represents (other .represents) (arrivalAt arrivals on) (length (net .nodes)) (omega arith)
       ∙ sym (other .earliest) in (
         (λ i. Step.On (count-once i) (next-index i) (moment-once i)),
         one .list ∙ (λ i. take count out ++ (words i ++ drop (count + count-once i) out)) ∙ sym (other .list),
       )
 
-  pub step-once : (r a : Step) → StepSays net arrivals s t st out count r after x p → StepSays net arrivals s t st out count a list y q → (r ≡ a) × (after ≡ list)
-  step-once (Step.Full c) (Step.Full d) one other = (ap (λ step. Step.Full (channelIn step)) (sym (one .0) ∙ other .0), one .1 ∙⁻¹ other .1)
+  pub step-once : (r a : Step) → StepSays net arrivals p t st out count r after y → StepSays net arrivals p t st out count a list z → (r ≡ a) × (after ≡ list)
+  step-once (Step.Full c) (Step.Full d) one other = (ap (λ step. Step.Full (channelAt step)) (sym (one .0) ∙ other .0), one .1 ∙⁻¹ other .1)
   step-once (Step.Full c) Step.Short one other = absurd (omega (arith, ap numberIn (sym (one .0) ∙ other .0)))
   step-once (Step.Full c) (Step.On more next soon) one other = absurd (omega (arith, ap numberIn (sym (one .0) ∙ other .goesOn)))
   step-once Step.Short (Step.Full d) one other = absurd (omega (arith, ap numberIn (sym (one .0) ∙ other .0)))

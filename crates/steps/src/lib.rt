@@ -1,452 +1,170 @@
-// One instant of a run, in the steps of document 01's "One instant", a function for each, on the arrays that a run lends.
+// One instant of a run, in the steps of document 01's "One instant", a function for each, on the plan and the state that a run lends.
 ghost use mathlib.Core.Path.{_≡_};
-ghost use mathlib.Core.Bool.{true, false, cond, not, _&&_};
+ghost use mathlib.Core.Bool.{not};
 ghost use mathlib.Core.List.{_++_};
-ghost use Prim.Native.Nat.{ℕ, _+_, _-_, _*_, _/_, _%_, _^_, _≤_, _<_, min};
-ghost use lib.Dec.{eqb, ltb};
-ghost use lib.ListN.{length, getD, take as takeList, drop};
-ghost use Rattle.rules.specs.Lists.{every, lowest};
-ghost use Rattle.rules.specs.Kinds.{signed, smaller as smallerOf, larger as largerOf, quotient as quotientOf, isZero, result as resultOf, inputs as inputsOf};
-ghost use Rattle.rules.specs.Instant.{word as wordOf, channelIn, timeIn, waitFor};
-ghost use Rattle.steps.specs.Rings.{wrapped, Cells, shape, cells, heldAt, registerAt, Rings, Wrote, Took};
-ghost use Rattle.steps.specs.Writes.{never, Climbs, toEach, WroteWalk, WroteDue, WroteArrivals, Gathered, arrivalAt};
-ghost use Rattle.steps.specs.Represents.{ways};
-ghost use Rattle.steps.specs.Steps.{Able, OnChannels, Before, Written, StepSays};
-ghost use Rattle.rules.specs.Network.{Network as Rules};
-ghost use Rattle.rules.specs.Instant.{State};
-ghost use Rattle.steps.specs.Taking.{oldestOf, madeSays, portOf, Ported, found};
-ghost use Rattle.steps.specs.Nodes.{waitingBy, wires, pendings, pendingAt, soonest, Sized, Readable, Separate, Released, Turned, ReadBelow};
-
-// Later than any instant: a node with nothing waiting is due then.
-pub const NEVER: u32 = 4294967295;
-
-// Behind the last channel: the end of a walk.
-pub const NONE: usize = 64;
-
-fn least(a: usize, b: usize) -> usize
-    ensures { λ r. ⌜ r ≡ min a b ⌝ }
-{
-    if b < a { b } else { a }
-}
-
-fn earlier(a: u32, b: u32) -> u32
-    ensures { λ r. ⌜ r ≡ min a b ⌝ }
-{
-    if b < a { b } else { a }
-}
-
-// ---- Words
-
-pub fn channel_in(w: u64) -> usize
-    ensures { λ r. ⌜ r ≡ channelIn w ⌝ }
-{
-    (w / 0x100_0000_0000_0000) as usize
-}
-
-pub fn time_in(w: u64) -> u32
-    ensures { λ r. ⌜ r ≡ timeIn w ⌝ }
-{
-    (w / 0x1_0000_0000 % 0x100_0000) as u32
-}
-
-// The 32 bits of the value in a word.
-fn value_in(w: u64) -> u32
-    ensures { λ r. ⌜ r ≡ w % 2 ^ 32 ⌝ }
-{
-    (w % 0x1_0000_0000) as u32
-}
-
-// A word, with the value by its 32 bits.
-fn word(channel: usize, time: u32, value: u32) -> u64
-    requires { ⌜ (channel < 256) × (time < 2 ^ 24) ⌝ }
-    ensures { λ r. ⌜ r ≡ wordOf channel time (signed value) ⌝ }
-{
-    (channel as u64) * 0x100_0000_0000_0000
-        + fields::wide64(time) * 0x1_0000_0000
-        + fields::wide64(value)
-}
-
-// ---- A node's result, on tokens by their 32 bits
-
-// A result, or that it is absent.
-struct Made {
-    present: bool,
-    value: u32,
-}
-
-fn smaller(a: u32, b: u32) -> u32
-    ensures { λ r. ⌜ signed r ≡ smallerOf (signed a) (signed b) ⌝ }
-{
-    if fields::signed(b) < fields::signed(a) {
-        b
-    } else {
-        a
-    }
-}
-
-fn larger(a: u32, b: u32) -> u32
-    ensures { λ r. ⌜ signed r ≡ largerOf (signed a) (signed b) ⌝ }
-{
-    if fields::signed(a) < fields::signed(b) {
-        b
-    } else {
-        a
-    }
-}
-
-// The quotient toward zero; the one that 32 bits do not hold is the least number again.
-fn quotient(a: i32, k: i32) -> i32
-    requires { ⌜ isZero k ≡ false ⌝ }
-    ensures { λ r. ⌜ r ≡ quotientOf a k ⌝ }
-{
-    if k == -1 {
-        if a == -2147483648 {
-            return a;
-        }
-    }
-    a / k
-}
-
-fn chosen(a: u32, b: u32, c: u32) -> u32
-    ensures { λ r. ⌜ signed r ≡ cond (isZero (signed a)) (signed c) (signed b) ⌝ }
-{
-    if a == 0 { c } else { b }
-}
-
-fn result(kind: u32, k: u32, a: u32, b: u32, c: u32) -> Made
-    requires { ⌜ (kind < 12) × (kind ≡ 7 → isZero (signed k) ≡ false) ⌝ }
-    ensures { λ r. ⌜ madeSays r ≡ resultOf kind (signed k) (signed a) (signed b) (signed c) ⌝ }
-{
-    match kind {
-        0 => Made {
-            present: true,
-            value: k,
-        },
-        1 => Made {
-            present: true,
-            value: a,
-        },
-        2 => Made {
-            present: true,
-            value: std::num::wrapping_add_u32(a, k),
-        },
-        3 => Made {
-            present: true,
-            value: std::num::wrapping_add_u32(a, b),
-        },
-        4 => Made {
-            present: true,
-            value: std::num::wrapping_sub_u32(a, b),
-        },
-        5 => Made {
-            present: true,
-            value: smaller(a, b),
-        },
-        6 => Made {
-            present: true,
-            value: larger(a, b),
-        },
-        7 => Made {
-            present: true,
-            value: fields::pattern(quotient(fields::signed(a), fields::signed(k))),
-        },
-        8 => Made {
-            present: true,
-            value: chosen(a, b, c),
-        },
-        9 => Made {
-            present: a != 0,
-            value: b,
-        },
-        10 => Made {
-            present: true,
-            value: u32::count_ones(a),
-        },
-        _ => Made {
-            present: true,
-            value: u32::leading_zeros(a),
-        },
-    }
-}
-
-// ---- A node's state
-
-// A node's next release and its waiting result, which move on together.
-struct Pending {
-    next: u32,
-    due: u32,
-    value: u32,
-}
-
-impl Pending {
-    // After its result is written: nothing waits.
-    fn written(self) -> Self
-        ensures { λ r. ⌜ r ≡ record { next = self .next; due = never; value = self .value } ⌝ }
-    {
-        Pending {
-            next: self.next,
-            due: NEVER,
-            value: self.value,
-        }
-    }
-
-    // After a release that goes ahead: its result waits, unless it is absent.
-    fn ahead(self, period: u32, deadline: u32, made: Made) -> Self
-        requires { ⌜ (self .next < 2 ^ 24) × (period < 65536) × (deadline < 65536) ⌝ }
-        ensures { λ r. ⌜ (r .next ≡ self .next + period) × (waitingBy (r .due) (r .value) ≡ waitFor (self .next + deadline) (madeSays made)) ⌝ }
-    {
-        let next = self.next + period;
-        if made.present {
-            return Pending {
-                next,
-                due: self.next + deadline,
-                value: made.value,
-            };
-        }
-        Pending {
-            next,
-            due: NEVER,
-            value: made.value,
-        }
-    }
-
-    // After a release that skips: nothing waits.
-    fn skipped(self, period: u32) -> Self
-        requires { ⌜ (self .next < 2 ^ 24) × (period < 65536) ⌝ }
-        ensures { λ r. ⌜ r ≡ record { next = self .next + period; due = never; value = self .value } ⌝ }
-    {
-        Pending {
-            next: self.next + period,
-            due: NEVER,
-            value: self.value,
-        }
-    }
-
-    // The earlier of the next release and the due instant.
-    fn soon(self) -> u32
-        ensures { λ r. ⌜ r ≡ min (self .next) (self .due) ⌝ }
-    {
-        earlier(self.next, self.due)
-    }
-}
-
-// ---- A channel's ring
-
-fn wrap(x: usize, capacity: usize) -> usize
-    ensures { λ r. ⌜ r ≡ wrapped capacity x ⌝ }
-{
-    if x < capacity { x } else { x - capacity }
-}
-
-// Writes a token to channel `c`: a queue appends it, a register keeps it. Answers `c` where there was no room, and else `channels`.
-fn put(
-    channels: usize,
-    sort: &[u32; 64],
-    base: &[usize; 64],
-    capacity: &[usize; 64],
-    head: &[usize; 64],
-    len: &mut [usize; 64],
-    tokens: &mut [u32; 1024],
-    c: usize,
-    v: u32,
-) -> usize
-    requires { ⌜ Rings (shape channels (now sort) (now base) (now capacity)) (cells (now head) (now len) (now tokens)) × (c < channels) ⌝ }
-    ensures { λ r. ⌜ Wrote (shape channels (now (sort .entry)) (now (base .entry)) (now (capacity .entry))) (cells (now (head .entry)) (now (len .entry)) (now (tokens .entry))) (toEach (λ d. eqb d c) v) (cells (now (head .entry)) (now (len .exit)) (now (tokens .exit))) r ⌝ }
-{
-    let b = base[c];
-    if sort[c] == 1 {
-        tokens[b] = v;
-        return channels;
-    }
-    let l = len[c];
-    let cap = capacity[c];
-    if l < cap {
-        let at = wrap(head[c] + l, cap);
-        tokens[b + at] = v;
-        len[c] = l + 1;
-        return channels;
-    }
-    c
-}
-
-// Takes the oldest token of a queue, or reads a register.
-fn take(
-    channels: usize,
-    sort: &[u32; 64],
-    base: &[usize; 64],
-    capacity: &[usize; 64],
-    head: &mut [usize; 64],
-    len: &mut [usize; 64],
-    tokens: &[u32; 1024],
-    c: usize,
-) -> u32
-    requires { ⌜ Rings (shape channels (now sort) (now base) (now capacity)) (cells (now head) (now len) (now tokens)) × (c < channels) × (1 ≤ getD (now len) c 0) ⌝ }
-    ensures took { λ r. ⌜ Took (shape channels (now (sort .entry)) (now (base .entry)) (now (capacity .entry))) (cells (now (head .entry)) (now (len .entry)) (now (tokens .entry))) (λ d. eqb d c && not (registerAt (shape channels (now (sort .entry)) (now (base .entry)) (now (capacity .entry))) c)) (cells (now (head .exit)) (now (len .exit)) (now (tokens .entry))) ⌝ }
-    ensures oldest { λ r. ⌜ r ≡ oldestOf (heldAt (shape channels (now (sort .entry)) (now (base .entry)) (now (capacity .entry))) (cells (now (head .entry)) (now (len .entry)) (now (tokens .entry))) c) ⌝ }
-{
-    let h = head[c];
-    let b = base[c];
-    let v = tokens[b + h];
-    if sort[c] == 1 {
-        return v;
-    }
-    let cap = capacity[c];
-    let l = len[c];
-    head[c] = wrap(h + 1, cap);
-    len[c] = l - 1;
-    v
-}
+ghost use Prim.Native.Nat.{_+_, _*_, _^_, _≤_, _<_, min};
+ghost use lib.Dec.{eqb};
+ghost use lib.ListN.{length, getD, take, drop};
+ghost use Rattle.layout.specs.Layout.{PLAN, STATE};
+ghost use Rattle.layout.specs.Views.{nodesOf, channelsOf, shapeOf, wiresOf, waysOf, cellsOf, pendingsOf, soonsOf, nodesFrom};
+ghost use Rattle.arrays.specs.Writes.{Climbs};
+ghost use Rattle.arrays.specs.Taking.{portOf, Ported};
+ghost use Rattle.arrays.specs.Nodes.{pendingAt, pairSoon, Readable, Released};
+ghost use Rattle.arrays.specs.Instants.{AbleIn, RingsIn, Whole, Timely, OnChannels};
+ghost use Rattle.arrays.specs.Turns.{WroteAlong, WroteOn, WroteAll, GatheredIn, TurnedIn, PairTurned, PairRead, ReadAll};
+ghost use Rattle.steps.specs.Steps.{WroteStamped, TookIn, RestSays, InstantSays};
+use kinds::NEVER;
+use kinds::Pending;
+use kinds::earlier;
+use layout::CHANNELS;
+use layout::CONSTANT;
+use layout::COUNT;
+use layout::DEADLINE;
+use layout::DUE;
+use layout::FIRST;
+use layout::FOLLOW;
+use layout::INPUT;
+use layout::KIND;
+use layout::LEN;
+use layout::NEXT;
+use layout::NODES;
+use layout::NONE;
+use layout::OUT;
+use layout::OUTS;
+use layout::PERIOD;
+use layout::PLAN;
+use layout::SOON;
+use layout::STATE;
+use layout::VALUE;
+use layout::WRITER;
+use layout::fixed;
+use layout::held;
+use layout::hold;
+use layout::index;
 
 // ---- Step 1: writes
 
-// Writes a token to each channel of a walk. Answers the lowest one without room, or `channels`.
+// Writes a token to each channel of a walk. Answers the lowest one without room, or `before` where that is lower.
 fn put_all(
-    channels: usize,
-    follow: &[usize; 64],
-    sort: &[u32; 64],
-    base: &[usize; 64],
-    capacity: &[usize; 64],
-    head: &[usize; 64],
-    len: &mut [usize; 64],
-    tokens: &mut [u32; 1024],
+    plan: &[u32; PLAN],
+    state: &mut [u32; STATE],
     first: usize,
     v: u32,
+    before: usize,
 ) -> usize
-    requires { ⌜ Rings (shape channels (now sort) (now base) (now capacity)) (cells (now head) (now len) (now tokens)) × Climbs channels (now follow) first ⌝ }
-    ensures { λ r. ⌜ WroteWalk (shape channels (now (sort .entry)) (now (base .entry)) (now (capacity .entry))) (cells (now (head .entry)) (now (len .entry)) (now (tokens .entry))) (now (follow .entry)) first v (cells (now (head .entry)) (now (len .exit)) (now (tokens .exit))) r ⌝ }
+    requires { ⌜ RingsIn (now plan) (now state) × Climbs (channelsOf (now plan)) (waysOf (now plan) .follow) first × (before ≤ channelsOf (now plan)) ⌝ }
+    ensures { λ r. ⌜ WroteAlong (now (plan .entry)) (now (state .entry)) first v before (now (state .exit)) r ⌝ }
 {
-    let mut full = channels;
+    let mut full = before;
     let mut c = first;
     while c < NONE {
-        full = least(
-            full,
-            put(channels, sort, base, capacity, head, len, tokens, c, v),
-        );
-        c = follow[c];
+        full = rings::put(plan, state, c, v, full);
+        c = index(plan, FOLLOW, c);
     }
     full
 }
 
-// Writes the results that are due. Answers the lowest channel without room, or `channels`.
-fn write_due(
-    channels: usize,
-    nodes: usize,
+// Writes the results of a pair of nodes that are due. A loop, so that the writing stands once in the program.
+fn write_pair(
+    plan: &[u32; PLAN],
+    state: &mut [u32; STATE],
     t: u32,
-    due: &[u32; 32],
-    value: &[u32; 32],
-    first: &[usize; 32],
-    follow: &[usize; 64],
-    sort: &[u32; 64],
-    base: &[usize; 64],
-    capacity: &[usize; 64],
-    head: &[usize; 64],
-    len: &mut [usize; 64],
-    tokens: &mut [u32; 1024],
+    pair: usize,
+    before: usize,
 ) -> usize
-    requires { ⌜ Rings (shape channels (now sort) (now base) (now capacity)) (cells (now head) (now len) (now tokens)) × (nodes ≤ 32) × ((n : ℕ) → n < nodes → Climbs channels (now follow) (getD (now first) n 0)) ⌝ }
-    ensures { λ r. ⌜ WroteDue (shape channels (now (sort .entry)) (now (base .entry)) (now (capacity .entry))) (cells (now (head .entry)) (now (len .entry)) (now (tokens .entry))) nodes t (now (due .entry)) (now (value .entry)) (now (first .entry)) (now (follow .entry)) (cells (now (head .entry)) (now (len .exit)) (now (tokens .exit))) r ⌝ }
+    requires { ⌜ AbleIn (now plan) × Whole (now plan) (now state) × (t < 2 ^ 24) × (2 * pair < nodesOf (now plan)) × (before ≤ channelsOf (now plan)) ⌝ }
+    ensures { λ r. ⌜ WroteOn (now (plan .entry)) (now (state .entry)) t (2 * pair) (min (2 * pair + 2) (nodesOf (now (plan .entry)))) before (now (state .exit)) r ⌝ }
 {
-    let mut full = channels;
-    let mut n = 0;
-    while n < nodes {
-        if due[n] == t {
-            full = least(
-                full,
-                put_all(
-                    channels,
-                    follow,
-                    sort,
-                    base,
-                    capacity,
-                    head,
-                    len,
-                    tokens,
-                    first[n],
-                    value[n],
-                ),
-            );
+    let mut full = before;
+    let mut n = 2 * pair;
+    let end = 2 * pair + 2;
+    while n < end {
+        if held(state, DUE, n) == t {
+            let v = held(state, VALUE, n);
+            full = put_all(plan, state, index(plan, FIRST, n), v, full);
         }
         n += 1;
     }
     full
 }
 
-// Where the arrivals go on, and the lowest channel without room, or `channels`.
+// Writes the results that are due. Answers the lowest channel without room, or the number of channels.
+fn write_due(plan: &[u32; PLAN], state: &mut [u32; STATE], t: u32) -> usize
+    requires { ⌜ AbleIn (now plan) × Whole (now plan) (now state) × Timely (now plan) (now state) t ⌝ }
+    ensures { λ r. ⌜ WroteAll (now (plan .entry)) (now (state .entry)) t (now (state .exit)) r ⌝ }
+{
+    let nodes = index(plan, NODES, 0);
+    let mut full = index(plan, CHANNELS, 0);
+    let mut pair = 0;
+    while 2 * pair < nodes {
+        if held(state, SOON, pair) == t {
+            full = write_pair(plan, state, t, pair, full);
+        }
+        pair += 1;
+    }
+    full
+}
+
+// Where the arrivals go on, the time of the one there, or never, and the lowest channel without room.
 struct Arrived {
     next: usize,
+    time: u32,
     full: usize,
 }
 
 // Writes the arrivals from index `from` on that are stamped now.
 fn write_arrivals(
-    channels: usize,
+    plan: &[u32; PLAN],
+    state: &mut [u32; STATE],
     arrivals: &[u64],
     from: usize,
     t: u32,
-    sort: &[u32; 64],
-    base: &[usize; 64],
-    capacity: &[usize; 64],
-    head: &[usize; 64],
-    len: &mut [usize; 64],
-    tokens: &mut [u32; 1024],
+    before: usize,
 ) -> Arrived
-    requires { ⌜ Rings (shape channels (now sort) (now base) (now capacity)) (cells (now head) (now len) (now tokens)) × (from ≤ length (now arrivals)) × ((i : ℕ) → i < length (now arrivals) → channelIn (getD (now arrivals) i 0) < channels) ⌝ }
-    ensures { λ r. ⌜ WroteArrivals (shape channels (now (sort .entry)) (now (base .entry)) (now (capacity .entry))) (cells (now (head .entry)) (now (len .entry)) (now (tokens .entry))) (now (arrivals .entry)) from t (cells (now (head .entry)) (now (len .exit)) (now (tokens .exit))) (r .next) (r .full) ⌝ }
+    requires { ⌜ RingsIn (now plan) (now state) × OnChannels (channelsOf (now plan)) (now arrivals) × (from ≤ length (now arrivals)) × (before ≤ channelsOf (now plan)) ⌝ }
+    ensures { λ r. ⌜ WroteStamped (now (plan .entry)) (now (state .entry)) (now (arrivals .entry)) from t before (now (state .exit)) r ⌝ }
 {
-    let mut full = channels;
+    let mut full = before;
     let mut i = from;
     while i < arrivals.len() {
         let w = arrivals[i];
-        if time_in(w) == t {
-            full = least(
-                full,
-                put(
-                    channels,
-                    sort,
-                    base,
-                    capacity,
-                    head,
-                    len,
-                    tokens,
-                    channel_in(w),
-                    value_in(w),
-                ),
-            );
+        let time = words::time_in(w);
+        if time == t {
+            full = rings::put(plan, state, words::channel_in(w), words::value_in(w), full);
         } else {
-            return Arrived { next: i, full };
+            return Arrived {
+                next: i,
+                time,
+                full,
+            };
         }
         i += 1;
     }
-    Arrived { next: i, full }
+    Arrived {
+        next: i,
+        time: NEVER,
+        full,
+    }
 }
 
 // ---- Step 3: words
 
 // This instant's output words, by channel number, first in `words`; answers how many.
-fn gather(
-    channels: usize,
-    t: u32,
-    first: usize,
-    follow: &[usize; 64],
-    writer: &[usize; 64],
-    due: &[u32; 32],
-    value: &[u32; 32],
-    words: &mut [u64; 64],
-) -> usize
-    requires { ⌜ Climbs channels (now follow) first × (t < 2 ^ 24) × (length (now words) ≡ 64) ⌝ }
-    ensures { λ r. ⌜ Gathered channels t (now (follow .entry)) first (now (writer .entry)) (now (due .entry)) (now (value .entry)) (now (words .exit)) r × (length (now (words .exit)) ≡ 64) ⌝ }
+fn gather(plan: &[u32; PLAN], state: &[u32; STATE], t: u32, words: &mut [u64; 64]) -> usize
+    requires { ⌜ Climbs (channelsOf (now plan)) (waysOf (now plan) .followOut) (waysOf (now plan) .firstOut) × (t < 2 ^ 24) × (length (now words) ≡ 64) ⌝ }
+    ensures { λ r. ⌜ GatheredIn (now (plan .entry)) (now (state .entry)) t (now (words .exit)) r × (length (now (words .exit)) ≡ 64) ⌝ }
 {
     let mut count = 0;
-    let mut c = first;
+    let mut c = index(plan, OUT, 0);
     while c < NONE {
-        let n = writer[c];
+        let n = index(plan, WRITER, c);
         if n < 32 {
-            if due[n] == t {
-                words[count] = word(c, t, value[n]);
+            if held(state, DUE, n) == t {
+                words[count] = words::word(c, t, held(state, VALUE, n));
                 count += 1;
             }
         }
-        c = follow[c];
+        c = index(plan, OUTS, c);
     }
     count
 }
@@ -454,7 +172,7 @@ fn gather(
 // Copies the first `count` words to place `at` of the list.
 fn copy_out(words: &[u64; 64], count: usize, out: &mut [u64], at: usize)
     requires { ⌜ (count ≤ 64) × (length (now words) ≡ 64) × (at + count ≤ length (now out)) ⌝ }
-    ensures { λ r. ⌜ now (out .exit) ≡ takeList at (now (out .entry)) ++ (takeList count (now (words .entry)) ++ drop (at + count) (now (out .entry))) ⌝ }
+    ensures { λ r. ⌜ now (out .exit) ≡ take at (now (out .entry)) ++ (take count (now (words .entry)) ++ drop (at + count) (now (out .entry))) ⌝ }
 {
     let mut i = 0;
     while i < count {
@@ -465,314 +183,224 @@ fn copy_out(words: &[u64; 64], count: usize, out: &mut [u64], at: usize)
 
 // ---- Step 4: reads
 
-// How many inputs a kind has.
-fn inputs_of(kind: u32) -> usize
-    requires { ⌜ kind < 12 ⌝ }
-    ensures { λ r. ⌜ r ≡ inputsOf kind ⌝ }
+// The channel at port `p` of node `n`.
+fn port(plan: &[u32; PLAN], n: usize, p: usize) -> usize
+    requires { ⌜ (n < 32) × (p < 4) ⌝ }
+    ensures { λ r. ⌜ r ≡ portOf (wiresOf (now (plan .entry)) .input) n p ⌝ }
 {
-    match kind {
-        0 => 0,
-        1 => 1,
-        2 => 1,
-        3 => 2,
-        4 => 2,
-        5 => 2,
-        6 => 2,
-        7 => 1,
-        8 => 3,
-        9 => 2,
-        10 => 1,
-        _ => 1,
+    index(plan, INPUT, 4 * n + p)
+}
+
+// Whether the channel at port `p` of node `n` holds a token.
+fn holds(plan: &[u32; PLAN], state: &[u32; STATE], n: usize, p: usize) -> bool
+    requires { ⌜ (n < 32) × (p < 4) × (portOf (wiresOf (now plan) .input) n p < 64) ⌝ }
+    ensures { λ r. ⌜ r ≡ not (eqb (getD (cellsOf (now (state .entry)) .len) (portOf (wiresOf (now (plan .entry)) .input) n p) 0) 0) ⌝ }
+{
+    held(state, LEN, port(plan, n, p)) != 0
+}
+
+// What a node finds at its ports: whether every one holds a token, and if so the tokens, 0 where the node has no such port.
+struct Inputs {
+    ready: bool,
+    a: u32,
+    b: u32,
+    c: u32,
+}
+
+// The tokens of a node with one input, taken.
+fn take_one(plan: &[u32; PLAN], state: &mut [u32; STATE], n: usize) -> Inputs
+    requires { ⌜ RingsIn (now plan) (now state) × (n < 32) × Ported (channelsOf (now plan)) (wiresOf (now plan) .input) n 1 ⌝ }
+    ensures { λ r. ⌜ TookIn (now (plan .entry)) (now (state .entry)) n 1 (now (state .exit)) r ⌝ }
+{
+    if holds(plan, state, n, 0) {
+        let a = rings::take(plan, state, port(plan, n, 0));
+        return Inputs {
+            ready: true,
+            a,
+            b: 0,
+            c: 0,
+        };
+    }
+    Inputs {
+        ready: false,
+        a: 0,
+        b: 0,
+        c: 0,
     }
 }
 
-// Every channel at the first `count` ports of node `n` holds a token.
-fn ready(channels: usize, len: &[usize; 64], input: &[usize; 128], n: usize, count: usize) -> bool
-    requires { ⌜ (channels ≤ 64) × (n < 32) × Ported channels (now input) n count ⌝ }
-    ensures { λ r. ⌜ r ≡ every count (λ p. not (eqb (getD (now (len .entry)) (portOf (now (input .entry)) n p) 0) 0)) ⌝ }
+// Those of a node with two inputs.
+fn take_two(plan: &[u32; PLAN], state: &mut [u32; STATE], n: usize) -> Inputs
+    requires { ⌜ RingsIn (now plan) (now state) × (n < 32) × Ported (channelsOf (now plan)) (wiresOf (now plan) .input) n 2 ⌝ }
+    ensures { λ r. ⌜ TookIn (now (plan .entry)) (now (state .entry)) n 2 (now (state .exit)) r ⌝ }
 {
-    let mut p = 0;
-    while p < count {
-        if len[input[4 * n + p]] == 0 {
-            return false;
+    if holds(plan, state, n, 0) {
+        if holds(plan, state, n, 1) {
+            let a = rings::take(plan, state, port(plan, n, 0));
+            let b = rings::take(plan, state, port(plan, n, 1));
+            return Inputs {
+                ready: true,
+                a,
+                b,
+                c: 0,
+            };
         }
-        p += 1;
     }
-    true
+    Inputs {
+        ready: false,
+        a: 0,
+        b: 0,
+        c: 0,
+    }
 }
 
-// The token at port `p` of node `n`, taken; 0 where the node has no such port.
-fn take_port(
-    channels: usize,
-    sort: &[u32; 64],
-    base: &[usize; 64],
-    capacity: &[usize; 64],
-    head: &mut [usize; 64],
-    len: &mut [usize; 64],
-    tokens: &[u32; 1024],
-    input: &[usize; 128],
-    n: usize,
-    p: usize,
-    count: usize,
-) -> u32
-    requires { ⌜ Rings (shape channels (now sort) (now base) (now capacity)) (cells (now head) (now len) (now tokens)) × (n < 32) × (p < 3) × Ported channels (now input) n count × (p < count → 1 ≤ getD (now len) (portOf (now input) n p) 0) ⌝ }
-    ensures took { λ r. ⌜ Took (shape channels (now (sort .entry)) (now (base .entry)) (now (capacity .entry))) (cells (now (head .entry)) (now (len .entry)) (now (tokens .entry))) (λ d. (ltb p count && eqb d (portOf (now (input .entry)) n p)) && not (registerAt (shape channels (now (sort .entry)) (now (base .entry)) (now (capacity .entry))) d)) (cells (now (head .exit)) (now (len .exit)) (now (tokens .entry))) ⌝ }
-    ensures oldest { λ r. ⌜ r ≡ found (shape channels (now (sort .entry)) (now (base .entry)) (now (capacity .entry))) (cells (now (head .entry)) (now (len .entry)) (now (tokens .entry))) (now (input .entry)) n count p ⌝ }
+// Those of a node with three inputs.
+fn take_three(plan: &[u32; PLAN], state: &mut [u32; STATE], n: usize) -> Inputs
+    requires { ⌜ RingsIn (now plan) (now state) × (n < 32) × Ported (channelsOf (now plan)) (wiresOf (now plan) .input) n 3 ⌝ }
+    ensures { λ r. ⌜ TookIn (now (plan .entry)) (now (state .entry)) n 3 (now (state .exit)) r ⌝ }
 {
-    if p < count {
-        return take(
-            channels,
-            sort,
-            base,
-            capacity,
-            head,
-            len,
-            tokens,
-            input[4 * n + p],
-        );
+    if holds(plan, state, n, 0) {
+        if holds(plan, state, n, 1) {
+            if holds(plan, state, n, 2) {
+                let a = rings::take(plan, state, port(plan, n, 0));
+                let b = rings::take(plan, state, port(plan, n, 1));
+                let c = rings::take(plan, state, port(plan, n, 2));
+                return Inputs {
+                    ready: true,
+                    a,
+                    b,
+                    c,
+                };
+            }
+        }
     }
-    0
+    Inputs {
+        ready: false,
+        a: 0,
+        b: 0,
+        c: 0,
+    }
 }
 
-// A release of node `n`, whose state before it is `state`.
-fn release(
-    channels: usize,
-    kind: u32,
-    constant: u32,
-    period: u32,
-    deadline: u32,
-    state: Pending,
-    sort: &[u32; 64],
-    base: &[usize; 64],
-    capacity: &[usize; 64],
-    head: &mut [usize; 64],
-    len: &mut [usize; 64],
-    tokens: &[u32; 1024],
-    input: &[usize; 128],
-    n: usize,
-) -> Pending
-    requires { ⌜ Rings (shape channels (now sort) (now base) (now capacity)) (cells (now head) (now len) (now tokens)) × (n < 32) × (kind < 12) × (kind ≡ 7 → isZero (signed constant) ≡ false) × Ported channels (now input) n (inputsOf kind) × (state .next < 2 ^ 24) × (period < 65536) × (deadline < 65536) ⌝ }
-    ensures { λ r. ⌜ Released (shape channels (now (sort .entry)) (now (base .entry)) (now (capacity .entry))) (cells (now (head .entry)) (now (len .entry)) (now (tokens .entry))) (now (input .entry)) n kind constant period deadline state (cells (now (head .exit)) (now (len .exit)) (now (tokens .entry))) r ⌝ }
+// Those of a node by the number of its inputs.
+fn take_inputs(plan: &[u32; PLAN], state: &mut [u32; STATE], n: usize, count: u32) -> Inputs
+    requires { ⌜ RingsIn (now plan) (now state) × (n < 32) × Ported (channelsOf (now plan)) (wiresOf (now plan) .input) n count ⌝ }
+    ensures { λ r. ⌜ TookIn (now (plan .entry)) (now (state .entry)) n count (now (state .exit)) r ⌝ }
 {
-    let count = inputs_of(kind);
-    if ready(channels, len, input, n, count) {
-        let a = take_port(
-            channels,
-            sort,
-            base,
-            capacity,
-            head,
-            len,
-            tokens,
-            input,
-            n,
-            0,
-            count,
-        );
-        let b = take_port(
-            channels,
-            sort,
-            base,
-            capacity,
-            head,
-            len,
-            tokens,
-            input,
-            n,
-            1,
-            count,
-        );
-        let c = take_port(
-            channels,
-            sort,
-            base,
-            capacity,
-            head,
-            len,
-            tokens,
-            input,
-            n,
-            2,
-            count,
-        );
-        let made = result(kind, constant, a, b, c);
-        return state.ahead(period, deadline, made);
+    match count {
+        0 => Inputs {
+            ready: true,
+            a: 0,
+            b: 0,
+            c: 0,
+        },
+        1 => take_one(plan, state, n),
+        2 => take_two(plan, state, n),
+        _ => take_three(plan, state, n),
     }
-    state.skipped(period)
 }
 
-// Node `n`'s turn to read at its next release, where `state` is its state before it. Answers as `turn` does.
-fn turn_released(
-    channels: usize,
-    kind: &[u32; 32],
-    constant: &[u32; 32],
-    period: &[u32; 32],
-    deadline: &[u32; 32],
-    state: Pending,
-    sort: &[u32; 64],
-    base: &[usize; 64],
-    capacity: &[usize; 64],
-    head: &mut [usize; 64],
-    len: &mut [usize; 64],
-    tokens: &[u32; 1024],
-    input: &[usize; 128],
-    next: &mut [u32; 32],
-    due: &mut [u32; 32],
-    value: &mut [u32; 32],
-    n: usize,
-) -> u32
-    requires { ⌜ Rings (shape channels (now sort) (now base) (now capacity)) (cells (now head) (now len) (now tokens)) × (n < 32) × (state .next < 2 ^ 24) × (state ≡ pendingAt (pendings (now next) (now due) (now value)) n) × Readable channels (wires (now kind) (now constant) (now period) (now deadline) (now input)) n × Sized (pendings (now next) (now due) (now value)) ⌝ }
-    ensures { λ r. ⌜ Turned (wires (now (kind .entry)) (now (constant .entry)) (now (period .entry)) (now (deadline .entry)) (now (input .entry))) (shape channels (now (sort .entry)) (now (base .entry)) (now (capacity .entry))) (cells (now (head .entry)) (now (len .entry)) (now (tokens .entry))) (pendings (now (next .entry)) (now (due .entry)) (now (value .entry))) (state .next) n (cells (now (head .exit)) (now (len .exit)) (now (tokens .entry))) (pendings (now (next .exit)) (now (due .exit)) (now (value .exit))) r ⌝ }
+// A release of node `n`, whose next release and waiting result are `before`.
+fn release(plan: &[u32; PLAN], state: &mut [u32; STATE], before: Pending, n: usize) -> Pending
+    requires { ⌜ RingsIn (now plan) (now state) × (n < 32) × Readable (channelsOf (now plan)) (wiresOf (now plan)) n × (before .next < 2 ^ 24) ⌝ }
+    ensures released { λ r. ⌜ Released (wiresOf (now (plan .entry))) (shapeOf (now (plan .entry))) (cellsOf (now (state .entry))) n before (cellsOf (now (state .exit))) r ⌝ }
+    ensures nodes { λ r. ⌜ nodesFrom (now (state .exit)) ≡ nodesFrom (now (state .entry)) ⌝ }
 {
-    let after = release(
-        channels,
-        kind[n],
-        constant[n],
-        period[n],
-        deadline[n],
-        state,
-        sort,
-        base,
-        capacity,
-        head,
-        len,
-        tokens,
-        input,
-        n,
-    );
-    next[n] = after.next;
-    due[n] = after.due;
-    value[n] = after.value;
+    let period = fixed(plan, PERIOD, n);
+    let found = take_inputs(plan, state, n, fixed(plan, COUNT, n));
+    if found.ready {
+        let made = kinds::result(
+            fixed(plan, KIND, n),
+            fixed(plan, CONSTANT, n),
+            found.a,
+            found.b,
+            found.c,
+        );
+        return before.ahead(period, fixed(plan, DEADLINE, n), made);
+    }
+    before.skipped(period)
+}
+
+// Node `n`'s turn to read at its next release, before which its next release and waiting result are `before`. Answers as `turn` does.
+fn turn_released(plan: &[u32; PLAN], state: &mut [u32; STATE], before: Pending, n: usize) -> u32
+    requires { ⌜ Whole (now plan) (now state) × (n < 32) × Readable (channelsOf (now plan)) (wiresOf (now plan)) n × (before .next < 2 ^ 24) × (before ≡ pendingAt (pendingsOf (now state)) n) ⌝ }
+    ensures { λ r. ⌜ TurnedIn (now (plan .entry)) (now (state .entry)) (before .next) n (now (state .exit)) r ⌝ }
+{
+    let after = release(plan, state, before, n);
+    hold(state, NEXT, n, after.next);
+    hold(state, DUE, n, after.due);
+    hold(state, VALUE, n, after.value);
     after.soon()
 }
 
 // Node `n`'s turn to read. Answers the earlier of its next release and its due instant.
-fn turn(
-    channels: usize,
-    t: u32,
-    kind: &[u32; 32],
-    constant: &[u32; 32],
-    period: &[u32; 32],
-    deadline: &[u32; 32],
-    sort: &[u32; 64],
-    base: &[usize; 64],
-    capacity: &[usize; 64],
-    head: &mut [usize; 64],
-    len: &mut [usize; 64],
-    tokens: &[u32; 1024],
-    input: &[usize; 128],
-    next: &mut [u32; 32],
-    due: &mut [u32; 32],
-    value: &mut [u32; 32],
-    n: usize,
-) -> u32
-    requires { ⌜ Rings (shape channels (now sort) (now base) (now capacity)) (cells (now head) (now len) (now tokens)) × (n < 32) × (t < 2 ^ 24) × Readable channels (wires (now kind) (now constant) (now period) (now deadline) (now input)) n × Sized (pendings (now next) (now due) (now value)) ⌝ }
-    ensures { λ r. ⌜ Turned (wires (now (kind .entry)) (now (constant .entry)) (now (period .entry)) (now (deadline .entry)) (now (input .entry))) (shape channels (now (sort .entry)) (now (base .entry)) (now (capacity .entry))) (cells (now (head .entry)) (now (len .entry)) (now (tokens .entry))) (pendings (now (next .entry)) (now (due .entry)) (now (value .entry))) t n (cells (now (head .exit)) (now (len .exit)) (now (tokens .entry))) (pendings (now (next .exit)) (now (due .exit)) (now (value .exit))) r ⌝ }
+fn turn(plan: &[u32; PLAN], state: &mut [u32; STATE], t: u32, n: usize) -> u32
+    requires { ⌜ AbleIn (now plan) × Whole (now plan) (now state) × (t < 2 ^ 24) × (n < 32) ⌝ }
+    ensures { λ r. ⌜ TurnedIn (now (plan .entry)) (now (state .entry)) t n (now (state .exit)) r ⌝ }
 {
-    let state = Pending {
-        next: next[n],
-        due: due[n],
-        value: value[n],
+    let before = Pending {
+        next: held(state, NEXT, n),
+        due: held(state, DUE, n),
+        value: held(state, VALUE, n),
     };
-    let soon = state.soon();
-    if t < soon {
-        return soon;
+    if before.next == t {
+        return turn_released(plan, state, before, n);
     }
-    if state.next == t {
-        return turn_released(
-            channels,
-            kind,
-            constant,
-            period,
-            deadline,
-            state,
-            sort,
-            base,
-            capacity,
-            head,
-            len,
-            tokens,
-            input,
-            next,
-            due,
-            value,
-            n,
-        );
-    }
-    if state.due == t {
-        let after = state.written();
-        due[n] = after.due;
+    if before.due == t {
+        let after = before.written();
+        hold(state, DUE, n, after.due);
         return after.soon();
     }
-    soon
+    before.soon()
 }
 
-// The reads. Answers the earliest instant at which a node is then released or due, or `from` if that is earlier.
-fn read_all(
-    channels: usize,
-    nodes: usize,
-    t: u32,
-    from: u32,
-    kind: &[u32; 32],
-    constant: &[u32; 32],
-    period: &[u32; 32],
-    deadline: &[u32; 32],
-    sort: &[u32; 64],
-    base: &[usize; 64],
-    capacity: &[usize; 64],
-    head: &mut [usize; 64],
-    len: &mut [usize; 64],
-    tokens: &[u32; 1024],
-    input: &[usize; 128],
-    next: &mut [u32; 32],
-    due: &mut [u32; 32],
-    value: &mut [u32; 32],
-) -> u32
-    requires { ⌜ Rings (shape channels (now sort) (now base) (now capacity)) (cells (now head) (now len) (now tokens)) × (nodes ≤ 32) × (t < 2 ^ 24) × ((n : ℕ) → n < nodes → Readable channels (wires (now kind) (now constant) (now period) (now deadline) (now input)) n) × Separate nodes (wires (now kind) (now constant) (now period) (now deadline) (now input)) × Sized (pendings (now next) (now due) (now value)) ⌝ }
-    ensures reads { λ r. ⌜ ReadBelow (wires (now (kind .entry)) (now (constant .entry)) (now (period .entry)) (now (deadline .entry)) (now (input .entry))) (shape channels (now (sort .entry)) (now (base .entry)) (now (capacity .entry))) (cells (now (head .entry)) (now (len .entry)) (now (tokens .entry))) (pendings (now (next .entry)) (now (due .entry)) (now (value .entry))) t nodes (cells (now (head .exit)) (now (len .exit)) (now (tokens .entry))) (pendings (now (next .exit)) (now (due .exit)) (now (value .exit))) ⌝ }
-    ensures earliest { λ r. ⌜ r ≡ soonest (pendings (now (next .exit)) (now (due .exit)) (now (value .exit))) from nodes ⌝ }
+// The turns of a pair of nodes. Answers the earliest instant of the pair then. A loop, so that the turn stands once in the program.
+fn turn_pair(plan: &[u32; PLAN], state: &mut [u32; STATE], t: u32, pair: usize) -> u32
+    requires { ⌜ AbleIn (now plan) × Whole (now plan) (now state) × (t < 2 ^ 24) × (2 * pair < nodesOf (now plan)) ⌝ }
+    ensures turned { λ r. ⌜ PairTurned (now (plan .entry)) (now (state .entry)) t pair (now (state .exit)) r ⌝ }
+    ensures soons { λ r. ⌜ soonsOf (now (state .exit)) ≡ soonsOf (now (state .entry)) ⌝ }
 {
-    let mut soon = from;
-    let mut n = 0;
-    while n < nodes {
-        soon = earlier(
-            soon,
-            turn(
-                channels,
-                t,
-                kind,
-                constant,
-                period,
-                deadline,
-                sort,
-                base,
-                capacity,
-                head,
-                len,
-                tokens,
-                input,
-                next,
-                due,
-                value,
-                n,
-            ),
-        );
+    let mut soon = NEVER;
+    let mut n = 2 * pair;
+    let end = 2 * pair + 2;
+    while n < end {
+        soon = earlier(soon, turn(plan, state, t, n));
         n += 1;
     }
     soon
 }
 
-// ---- One instant
-
-// The time of the arrival at an index, or never.
-fn arrival_time(arrivals: &[u64], i: usize) -> u32
-    ensures { λ r. ⌜ r ≡ arrivalAt (now (arrivals .entry)) i ⌝ }
+// The reads of a pair, which has its turn only where it is due. Answers the earliest instant of the pair then.
+fn read_pair(plan: &[u32; PLAN], state: &mut [u32; STATE], t: u32, pair: usize) -> u32
+    requires whole { ⌜ AbleIn (now plan) × Whole (now plan) (now state) × (t < 2 ^ 24) × (2 * pair < nodesOf (now plan)) ⌝ }
+    requires timely { ⌜ (getD (soonsOf (now state)) pair 0 ≡ pairSoon (pendingsOf (now state)) pair) × (t ≤ pairSoon (pendingsOf (now state)) pair) ⌝ }
+    ensures { λ r. ⌜ PairRead (now (plan .entry)) (now (state .entry)) t pair (now (state .exit)) r ⌝ }
 {
-    if i < arrivals.len() {
-        return time_in(arrivals[i]);
+    let soon = held(state, SOON, pair);
+    if soon == t {
+        let then = turn_pair(plan, state, t, pair);
+        hold(state, SOON, pair, then);
+        return then;
     }
-    NEVER
+    soon
 }
+
+// The reads. Answers the earliest instant at which a node is then released or due, or `from` if that is earlier.
+fn read_all(plan: &[u32; PLAN], state: &mut [u32; STATE], t: u32, from: u32) -> u32
+    requires { ⌜ AbleIn (now plan) × Whole (now plan) (now state) × Timely (now plan) (now state) t ⌝ }
+    ensures { λ r. ⌜ ReadAll (now (plan .entry)) (now (state .entry)) t from (now (state .exit)) r ⌝ }
+{
+    let nodes = index(plan, NODES, 0);
+    let mut soon = from;
+    let mut pair = 0;
+    while 2 * pair < nodes {
+        soon = earlier(soon, read_pair(plan, state, t, pair));
+        pair += 1;
+    }
+    soon
+}
+
+// ---- One instant
 
 // What an instant comes to: a full queue, too many words, or how many words it had, where the arrivals go on and the next instant at
 // which something happens.
@@ -783,94 +411,36 @@ pub enum Step {
 }
 
 // The words and the reads, once no queue is overfull.
-fn finish(
-    channels: usize,
-    nodes: usize,
-    kind: &[u32; 32],
-    constant: &[u32; 32],
-    period: &[u32; 32],
-    deadline: &[u32; 32],
-    sort: &[u32; 64],
-    base: &[usize; 64],
-    capacity: &[usize; 64],
-    writer: &[usize; 64],
-    input: &[usize; 128],
-    first: &[usize; 32],
-    follow: &[usize; 64],
-    out: usize,
-    outs: &[usize; 64],
-    head: &mut [usize; 64],
-    len: &mut [usize; 64],
-    tokens: &mut [u32; 1024],
-    next: &mut [u32; 32],
-    due: &mut [u32; 32],
-    value: &mut [u32; 32],
-    arrivals: &[u64],
-    from: usize,
+fn words_and_reads(
+    plan: &[u32; PLAN],
+    state: &mut [u32; STATE],
+    arrived: Arrived,
     t: u32,
     words: &mut [u64; 64],
     list: &mut [u64],
     count: usize,
 ) -> Step
-    requires { ⌜ Rings (shape channels (now sort) (now base) (now capacity)) (cells (now head) (now len) (now tokens)) × Able nodes channels (wires (now kind) (now constant) (now period) (now deadline) (now input)) (ways (now writer) (now first) (now follow) out (now outs)) × Sized (pendings (now next) (now due) (now value)) × (t < 2 ^ 24) × (count ≤ length (now list)) × (length (now words) ≡ 64) ⌝ }
-    ensures says { λ r. ⌜ ((net : Rules) (st : State) (x : Cells) → nodes ≡ length (net .nodes) → Written net (now (arrivals .entry)) (shape channels (now (sort .entry)) (now (base .entry)) (now (capacity .entry))) (wires (now (kind .entry)) (now (constant .entry)) (now (period .entry)) (now (deadline .entry)) (now (input .entry))) (ways (now (writer .entry)) (now (first .entry)) (now (follow .entry)) out (now (outs .entry))) from t st x (pendings (now (next .entry)) (now (due .entry)) (now (value .entry))) (cells (now (head .entry)) (now (len .entry)) (now (tokens .entry))) → StepSays net (now (arrivals .entry)) (shape channels (now (sort .entry)) (now (base .entry)) (now (capacity .entry))) t st (now (list .entry)) count r (now (list .exit)) (cells (now (head .exit)) (now (len .exit)) (now (tokens .exit))) (pendings (now (next .exit)) (now (due .exit)) (now (value .exit)))) ⌝ }
+    requires { ⌜ AbleIn (now plan) × Whole (now plan) (now state) × Timely (now plan) (now state) t × (count ≤ length (now list)) × (length (now words) ≡ 64) ⌝ }
+    ensures says { λ r. ⌜ RestSays (now (plan .entry)) (now (state .entry)) arrived t (now (list .entry)) count r (now (list .exit)) (now (state .exit)) ⌝ }
     ensures kept { λ r. ⌜ length (now (words .exit)) ≡ 64 ⌝ }
 {
-    let more = gather(channels, t, out, outs, writer, due, value, words);
+    let more = gather(plan, state, t, words);
     if list.len() - count < more {
         return Step::Short;
     }
     copy_out(words, more, list, count);
-    let soon = read_all(
-        channels,
-        nodes,
-        t,
-        arrival_time(arrivals, from),
-        kind,
-        constant,
-        period,
-        deadline,
-        sort,
-        base,
-        capacity,
-        head,
-        len,
-        tokens,
-        input,
-        next,
-        due,
-        value,
-    );
+    let soon = read_all(plan, state, t, arrived.time);
     Step::On {
         more,
-        next: from,
+        next: arrived.next,
         soon,
     }
 }
 
-// One instant: the writes, the overfull check, the words and the reads. What stays over a run is lent together, for one lifetime.
-pub fn instant<'a>(
-    channels: usize,
-    nodes: usize,
-    kind: &'a [u32; 32],
-    constant: &'a [u32; 32],
-    period: &'a [u32; 32],
-    deadline: &'a [u32; 32],
-    sort: &'a [u32; 64],
-    base: &'a [usize; 64],
-    capacity: &'a [usize; 64],
-    writer: &'a [usize; 64],
-    input: &'a [usize; 128],
-    first: &'a [usize; 32],
-    follow: &'a [usize; 64],
-    out: usize,
-    outs: &'a [usize; 64],
-    head: &mut [usize; 64],
-    len: &mut [usize; 64],
-    tokens: &mut [u32; 1024],
-    next: &mut [u32; 32],
-    due: &mut [u32; 32],
-    value: &mut [u32; 32],
+// One instant: the writes, the overfull check, the words and the reads.
+pub fn instant(
+    plan: &[u32; PLAN],
+    state: &mut [u32; STATE],
     arrivals: &[u64],
     from: usize,
     t: u32,
@@ -878,68 +448,16 @@ pub fn instant<'a>(
     list: &mut [u64],
     count: usize,
 ) -> Step
-    requires { ⌜ Rings (shape channels (now sort) (now base) (now capacity)) (cells (now head) (now len) (now tokens)) × Able nodes channels (wires (now kind) (now constant) (now period) (now deadline) (now input)) (ways (now writer) (now first) (now follow) out (now outs)) × Sized (pendings (now next) (now due) (now value)) × OnChannels channels (now arrivals) × (from ≤ length (now arrivals)) × (t < 2 ^ 24) × (count ≤ length (now list)) × (length (now words) ≡ 64) ⌝ }
-    ensures says { λ r. ⌜ ((net : Rules) (st : State) → nodes ≡ length (net .nodes) → Before net (now (arrivals .entry)) (shape channels (now (sort .entry)) (now (base .entry)) (now (capacity .entry))) (wires (now (kind .entry)) (now (constant .entry)) (now (period .entry)) (now (deadline .entry)) (now (input .entry))) (ways (now (writer .entry)) (now (first .entry)) (now (follow .entry)) out (now (outs .entry))) from t st (cells (now (head .entry)) (now (len .entry)) (now (tokens .entry))) (pendings (now (next .entry)) (now (due .entry)) (now (value .entry))) → StepSays net (now (arrivals .entry)) (shape channels (now (sort .entry)) (now (base .entry)) (now (capacity .entry))) t st (now (list .entry)) count r (now (list .exit)) (cells (now (head .exit)) (now (len .exit)) (now (tokens .exit))) (pendings (now (next .exit)) (now (due .exit)) (now (value .exit)))) ⌝ }
+    requires arrays { ⌜ AbleIn (now plan) × Whole (now plan) (now state) × Timely (now plan) (now state) t × (length (now words) ≡ 64) ⌝ }
+    requires lists { ⌜ OnChannels (channelsOf (now plan)) (now arrivals) × (from ≤ length (now arrivals)) × (count ≤ length (now list)) ⌝ }
+    ensures says { λ r. ⌜ InstantSays (now (arrivals .entry)) (now (plan .entry)) (now (state .entry)) from t (now (list .entry)) count r (now (list .exit)) (now (state .exit)) ⌝ }
     ensures kept { λ r. ⌜ length (now (words .exit)) ≡ 64 ⌝ }
 {
-    let full = write_due(
-        channels,
-        nodes,
-        t,
-        due,
-        value,
-        first,
-        follow,
-        sort,
-        base,
-        capacity,
-        head,
-        len,
-        tokens,
-    );
-    let arrived = write_arrivals(
-        channels,
-        arrivals,
-        from,
-        t,
-        sort,
-        base,
-        capacity,
-        head,
-        len,
-        tokens,
-    );
-    let over = least(full, arrived.full);
-    if over < channels {
-        return Step::Full(over);
+    let due = write_due(plan, state, t);
+    let arrived = write_arrivals(plan, state, arrivals, from, t, due);
+    let full = arrived.full;
+    if full < index(plan, CHANNELS, 0) {
+        return Step::Full(full);
     }
-    finish(
-        channels,
-        nodes,
-        kind,
-        constant,
-        period,
-        deadline,
-        sort,
-        base,
-        capacity,
-        writer,
-        input,
-        first,
-        follow,
-        out,
-        outs,
-        head,
-        len,
-        tokens,
-        next,
-        due,
-        value,
-        arrivals,
-        arrived.next,
-        t,
-        words,
-        list,
-        count,
-    )
+    words_and_reads(plan, state, arrived, t, words, list, count)
 }

@@ -37,5 +37,5 @@ module _ (s : List ℕ) (nodes c at together : ℕ) where
       pub refused-by-tokens : {why : Refusal} → t ≡ Progress.Refused why → ChannelWithTokens s nodes c at together before (ChannelRead.Refused why) after
       refused-by-tokens refused = rw (piece-is e) (rw (counted, refused) at tokens)
 
-      pub read-with-tokens : {end : ℕ} → t ≡ Progress.Done end → ChannelDone s nodes c at together before ch after
+      pub read-with-tokens : t ≡ Progress.Done → ChannelDone s nodes c at together before ch after
       read-with-tokens done = record { piece = piece-is e; tokens = rw (counted, done) at tokens }

@@ -8,7 +8,7 @@ use Rattle.table.proofs as calls
 pub check : Settled calls.check.ended calls.check.Reads.Learnt
 check κs args o p e f = Σ-path (same checked-says-once e f) refl
 
-pub read : Settled calls.read.ended calls.read.Reads.Learnt
-read κs args o p e f =
+pub unpack : Settled calls.unpack.ended calls.unpack.Reads.Learnt
+unpack κs args o p e f =
     let answer : o .0 .answer ≡ p .0 .answer = same checked-says-once (e .answer) (f .answer) in
     Σ-path (λ i. record { answer = answer i; network = (e .network ∙⁻¹ f .network) i }) refl

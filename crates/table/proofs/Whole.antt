@@ -17,8 +17,9 @@ use Rattle.rules.specs.Table.{read, _then_, unless, headerAt, endsAt, faultyNod
 use Rattle.rules.proofs.Checks.{counts-within, node-fields}
 use Rattle.rules.proofs.ListLaws.{getD-tab}
 use Rattle.rules.proofs.Pieces.{header-read, nodes-read, nodes-count, channels-count}
-use Rattle.pieces.specs.declared.Header.{Header}
+use Rattle.pieces.specs.declared.HeaderRead.{HeaderRead}
 use Rattle.table.specs.declared.Progress.{Progress}
+use Rattle.table.specs.declared.Behind.{Behind}
 use Rattle.table.specs.declared.NodeArrays.{NodeArrays}
 use Rattle.table.specs.declared.ChannelArrays.{ChannelArrays}
 use Rattle.table.specs.declared.Table.{Table}
@@ -33,12 +34,12 @@ refused-table : (s : List ℕ) (why : Refusal) {r : Table} → network s ≡ ref
 refused-table s why e is = rw (e, is) (record { answer = refl; network = refl })
 
 -- the header's refusal, or its counts
-module _ (s : List ℕ) {h : Header} (says : headerSays h ≡ headerAt s) where
-  pub refused-by-header : {why : Refusal} {r : Table} → h ≡ Header.Refused why → r ≡ refusedTable why → TableOf (network s) r
+module _ (s : List ℕ) {h : HeaderRead} (says : headerSays h ≡ headerAt s) where
+  pub refused-by-header : {why : Refusal} {r : Table} → h ≡ HeaderRead.Refused why → r ≡ refusedTable why → TableOf (network s) r
   unfolding network
   refused-by-header {why} is = refused-table s why (rw (← says, is))
 
-  pub header-is : {nodes channels : ℕ} → h ≡ Header.Counts nodes channels → headerAt s ≡ read (record { nodes = nodes; channels = channels })
+  pub header-is : {nodes channels : ℕ} → h ≡ HeaderRead.Counts nodes channels → headerAt s ≡ read (record { nodes = nodes; channels = channels })
   header-is is = sym says ∙ ap headerSays is
 
 module _ (s : List ℕ) {nodes channels : ℕ} (header : headerAt s ≡ read (record { nodes = nodes; channels = channels })) where
@@ -57,7 +58,7 @@ module _ (s : List ℕ) {nodes channels : ℕ} (header : headerAt s ≡ read (re
   refused-by-nodes arrays {p} {why} got is = refused-table s why (rw (header, rw is at got))
 
   module _ {node : NodeArrays} (front : NodesDone s nodes node) where
-    pub refused-by-channels : (arrays : ChannelArrays) {p : Progress} {why : Refusal} {r : Table} → ChannelsRead s nodes channels p arrays → p ≡ Progress.Refused why → r ≡ refusedTable why → TableOf (network s) r
+    pub refused-by-channels : (arrays : ChannelArrays) {p : Behind} {why : Refusal} {r : Table} → ChannelsRead s nodes channels p arrays → p ≡ Behind.Refused why → r ≡ refusedTable why → TableOf (network s) r
     unfolding network
     refused-by-channels arrays {p} {why} got is = refused-table s why (rw (header, front .reads, rw is at got))
 

@@ -13,7 +13,8 @@ use Rattle.rules.specs.Network.{nodeAmong, channelAmong}
 use Rattle.rules.specs.Table.{Reading, refusal, read}
 use Rattle.rules.specs.declared.Refusal.{Refusal}
 use Rattle.rules.specs.declared.Checked.{Checked}
-use Rattle.rules.specs.Refusals.{numberOf, placeOf, checkSays, checkedSays}
+use Rattle.rules.specs.Refusals.{checkSays, checkedSays}
+use Rattle.pieces.specs.Says.{refusedBy}
 use Rattle.table.specs.declared.NodeArrays.{NodeArrays}
 use Rattle.table.specs.declared.ChannelArrays.{ChannelArrays}
 use Rattle.table.specs.declared.Network.{Network}
@@ -70,7 +71,7 @@ laid (read net) =
 
 -- a refused table
 abbrev pub refusedTable : Refusal → Table
-refusedTable why = record { answer = Checked.Refused why; network = laid (refusal (numberOf why) (placeOf why)) }
+refusedTable why = record { answer = Checked.Refused why; network = laid (refusedBy why) }
 
 -- the answer by the paper's numbers and values, and every element of the network
 pub record TableOf (reading : Reading rules.Network) (r : Table) : Type 0 where

@@ -16,6 +16,7 @@ use Rattle.rules.specs.Table.{read, _then_, nodesUpTo, tokensUpTo, channelPiece
 use Rattle.pieces.specs.declared.ChannelRead.{ChannelRead}
 use Rattle.pieces.specs.Says.{refusedBy}
 use Rattle.table.specs.declared.Progress.{Progress}
+use Rattle.table.specs.declared.Behind.{Behind}
 use Rattle.table.specs.declared.NodeArrays.{NodeArrays}
 use Rattle.table.specs.declared.ChannelArrays.{ChannelArrays}
 use Rattle.table.specs.Laid.{nodeArrays, channelArrays}
@@ -27,7 +28,7 @@ pub record NodesDone (s : List ℕ) (n : ℕ) (arrays : NodeArrays) : Type 0 whe
   pub laid : arrays ≡ nodeArrays nodes
 
 abbrev pub NodesRead : List ℕ → ℕ → Progress → NodeArrays → Type 0
-NodesRead s n (Progress.Done end) arrays = NodesDone s n arrays
+NodesRead s n Progress.Done arrays = NodesDone s n arrays
 NodesRead s n (Progress.Refused why) arrays = nodesUpTo s n ≡ refusedBy why
 
 -- the first k tokens at a bit are read and stored in a list from a place on
@@ -37,7 +38,7 @@ pub record TokensDone (s : List ℕ) (at k : ℕ) (before : List ℕ) (base : �
   pub stored : after ≡ sets before base (map pattern tokens)
 
 abbrev pub TokensRead : List ℕ → ℕ → ℕ → List ℕ → ℕ → Progress → List ℕ → Type 0
-TokensRead s at k before base (Progress.Done end) after = TokensDone s at k before base after
+TokensRead s at k before base Progress.Done after = TokensDone s at k before base after
 TokensRead s at k before base (Progress.Refused why) after = tokensUpTo s at k ≡ refusedBy why
 
 -- channel c is read, and its tokens
@@ -58,9 +59,9 @@ pub record ChannelsDone (s : List ℕ) (nodes c end : ℕ) (arrays : ChannelArra
   pub ends : end ≡ all .end
   pub laid : arrays ≡ channelArrays (all .channels) (all .tokens)
 
-abbrev pub ChannelsRead : List ℕ → ℕ → ℕ → Progress → ChannelArrays → Type 0
-ChannelsRead s nodes c (Progress.Done end) arrays = ChannelsDone s nodes c end arrays
-ChannelsRead s nodes c (Progress.Refused why) arrays = channelsUpTo s nodes c ≡ refusedBy why
+abbrev pub ChannelsRead : List ℕ → ℕ → ℕ → Behind → ChannelArrays → Type 0
+ChannelsRead s nodes c (Behind.Bit end) arrays = ChannelsDone s nodes c end arrays
+ChannelsRead s nodes c (Behind.Refused why) arrays = channelsUpTo s nodes c ≡ refusedBy why
 
 -- channel c serves port p of node n, by the arrays of readers and ports
 abbrev pub servedBy : List ℕ → List ℕ → ℕ → ℕ → ℕ → Bool

@@ -4,20 +4,25 @@ ghost use mathlib.Core.Path.{_≡_};
 ghost use Prim.Native.Nat.{ℕ, _+_, _*_, _≤_, _<_};
 ghost use lib.ListN.{length, getD};
 ghost use Rattle.rules.specs.Lists.{count, every, lowest};
-ghost use Rattle.rules.specs.Kinds.{inputs as inputsOf};
-ghost use Rattle.rules.specs.Table.{read as readAs, headerAt, endsAt, network};
-ghost use Rattle.rules.specs.Refusals.{check as checkRule, checkedSays};
+ghost use Rattle.rules.specs.Table.{read, headerAt, endsAt, network};
+ghost use Rattle.rules.specs.Refusals.{check, checkedSays};
 ghost use Rattle.table.specs.Laid.{refusedTable, TableOf};
 ghost use Rattle.table.specs.Reads.{NodesDone, NodesRead, TokensRead, ChannelWithTokens, ChannelsDone, ChannelsRead, servedBy, servedRight, faultyIn};
 use pieces::ChannelRead;
-use pieces::Header;
+use pieces::HeaderRead;
 use pieces::NodeRead;
 use rules::Checked;
 use rules::Refusal;
 
-// Whether all pieces of one sort were read, with the bit behind them, or the first refusal.
+// Whether all pieces of one sort were read, or the first refusal.
 enum Progress {
-    Done { end: usize },
+    Done,
+    Refused(Refusal),
+}
+
+// The bit behind the channels once all of them were read, or the first refusal.
+enum Behind {
+    Bit(usize),
     Refused(Refusal),
 }
 
@@ -63,11 +68,9 @@ struct Nodes {
 
 // The channels that were read so far.
 struct Channels {
-    progress: Progress,
+    behind: Behind,
     arrays: ChannelArrays,
 }
-
-// ---- The header
 
 // ---- Nodes
 
@@ -105,9 +108,7 @@ fn read_nodes(s: &[u8], count: usize) -> Nodes
         n += 1;
     }
     Nodes {
-        progress: Progress::Done {
-            end: 24 + 69 * count,
-        },
+        progress: Progress::Done,
         arrays: NodeArrays {
             kind,
             period,
@@ -134,9 +135,7 @@ fn read_tokens(s: &[u8], at: usize, count: usize, tokens: &mut [u32; 1024], base
         }
         i += 1;
     }
-    Progress::Done {
-        end: at + 32 * count,
-    }
+    Progress::Done
 }
 
 // Channel `c`, which stands at bit `at` behind channels whose capacities together are `together`, with its tokens, stored from place
@@ -159,7 +158,7 @@ fn read_channel(
             let t = read_tokens(s, at + 29, fields::wide(ch.initial), tokens, together);
             match t {
                 Progress::Refused(why) => ChannelRead::Refused(why),
-                Progress::Done { end: _ } => ChannelRead::Read(ch),
+                Progress::Done => ChannelRead::Read(ch),
             }
         }
     }
@@ -168,7 +167,7 @@ fn read_channel(
 // The first `count` channels, behind `nodes` nodes.
 fn read_channels(s: &[u8], nodes: usize, count: usize) -> Channels
     requires { ⌜ (nodes ≤ 32) × (count ≤ 64) ⌝ }
-    ensures { λ r. ⌜ ChannelsRead (now (s .entry)) nodes count (r .progress) (r .arrays) ⌝ }
+    ensures { λ r. ⌜ ChannelsRead (now (s .entry)) nodes count (r .behind) (r .arrays) ⌝ }
 {
     let mut sort = [0u32; 64];
     let mut writer = [0u32; 64];
@@ -185,7 +184,7 @@ fn read_channels(s: &[u8], nodes: usize, count: usize) -> Channels
         match p {
             ChannelRead::Refused(why) => {
                 return Channels {
-                    progress: Progress::Refused(why),
+                    behind: Behind::Refused(why),
                     arrays: ChannelArrays {
                         sort,
                         writer,
@@ -211,7 +210,7 @@ fn read_channels(s: &[u8], nodes: usize, count: usize) -> Channels
         c += 1;
     }
     Channels {
-        progress: Progress::Done { end: at },
+        behind: Behind::Bit(at),
         arrays: ChannelArrays {
             sort,
             writer,
@@ -236,16 +235,6 @@ fn ends(s: &[u8], at: usize) -> bool
         return fields::field(s, at, 8 * bytes - at) == 0;
     }
     false
-}
-
-// How many inputs each kind has, kind 0 first.
-const INPUTS: [u32; 12] = [0, 1, 1, 2, 2, 2, 2, 1, 3, 2, 1, 1];
-
-fn inputs(kind: u32) -> u32
-    requires { ⌜ kind < 12 ⌝ }
-    ensures { λ r. ⌜ r ≡ inputsOf kind ⌝ }
-{
-    INPUTS[fields::wide(kind)]
 }
 
 // How many of the first `channels` channels serve port `p` of node `n`.
@@ -310,7 +299,7 @@ fn faulty_node(
 {
     let mut n = 0;
     while n < nodes {
-        if ports_ok(reader, port, channels, n, inputs(kind[n])) {
+        if ports_ok(reader, port, channels, n, kinds::inputs(kind[n])) {
             n += 1;
         } else {
             return n;
@@ -358,7 +347,7 @@ fn read_end(
     node: NodeArrays,
     channel: ChannelArrays,
 ) -> Table
-    requires { ⌜ (headerAt (now s) ≡ readAs (record { nodes = nodes; channels = channels })) × NodesDone (now s) nodes node × ChannelsDone (now s) nodes channels end channel ⌝ }
+    requires { ⌜ (headerAt (now s) ≡ read (record { nodes = nodes; channels = channels })) × NodesDone (now s) nodes node × ChannelsDone (now s) nodes channels end channel ⌝ }
     ensures { λ r. ⌜ TableOf (network (now (s .entry))) r ⌝ }
 {
     if ends(s, end) {
@@ -384,14 +373,14 @@ fn read_end(
 
 // The channels, and what follows them, once the nodes are read.
 fn read_rest(s: &[u8], nodes: usize, channels: usize, node: NodeArrays) -> Table
-    requires { ⌜ (headerAt (now s) ≡ readAs (record { nodes = nodes; channels = channels })) × NodesDone (now s) nodes node ⌝ }
+    requires { ⌜ (headerAt (now s) ≡ read (record { nodes = nodes; channels = channels })) × NodesDone (now s) nodes node ⌝ }
     ensures { λ r. ⌜ TableOf (network (now (s .entry))) r ⌝ }
 {
     let cs = read_channels(s, nodes, channels);
-    let progress = cs.progress;
-    match progress {
-        Progress::Refused(why) => refused(why),
-        Progress::Done { end } => {
+    let behind = cs.behind;
+    match behind {
+        Behind::Refused(why) => refused(why),
+        Behind::Bit(end) => {
             let channel = cs.arrays;
             read_end(s, nodes, channels, end, node, channel)
         }
@@ -399,18 +388,18 @@ fn read_rest(s: &[u8], nodes: usize, channels: usize, node: NodeArrays) -> Table
 }
 
 // The network that a table's bytes say, or the first refusal.
-pub fn read(s: &[u8]) -> Table
+pub fn unpack(s: &[u8]) -> Table
     ensures { λ r. ⌜ TableOf (network (now (s .entry))) r ⌝ }
 {
     let h = pieces::read_header(s);
     match h {
-        Header::Refused(why) => refused(why),
-        Header::Counts { nodes, channels } => {
+        HeaderRead::Refused(why) => refused(why),
+        HeaderRead::Counts { nodes, channels } => {
             let ns = read_nodes(s, nodes);
             let progress = ns.progress;
             match progress {
                 Progress::Refused(why) => refused(why),
-                Progress::Done { end: _ } => {
+                Progress::Done => {
                     let node = ns.arrays;
                     read_rest(s, nodes, channels, node)
                 }
@@ -421,8 +410,8 @@ pub fn read(s: &[u8]) -> Table
 
 // The first entry point: the check of a table.
 pub fn check(s: &[u8]) -> Checked
-    ensures { λ r. ⌜ checkedSays r ≡ checkRule (now (s .entry)) ⌝ }
+    ensures { λ r. ⌜ checkedSays r ≡ check (now (s .entry)) ⌝ }
 {
-    let t = read(s);
+    let t = unpack(s);
     t.answer
 }

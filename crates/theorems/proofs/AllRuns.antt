@@ -5,7 +5,7 @@ use mathlib.Core.List.{List, map, map-congr-left}
 use mathlib.Core.Path.{_≡_, refl, sym, _∙_, ap}
 use Rattle.rules.specs.Lists.{tabFrom, tab, joined, lastOf, every, lowest}
 use Rattle.rules.specs.Kinds.{sum, inputs, result}
-use Rattle.rules.specs.Instant.{initial, arriving, keeping, ready, inputAt, resultOf}
+use Rattle.rules.specs.Instant.{atStart, arriving, keeping, ready, inputAt, resultOf}
 use Rattle.rules.specs.Refusals.{outcome}
 use Rattle.theorems.specs.Turns.{begin, brings, write, reading, inTurn, wordsOut, readAll, judgedTurn, writeAll, instantInTurn, onwardInTurn, addsInTurn}
 use Rattle.theorems.specs.Instances.{Run, endOf, writtenIn, runs, slips}
@@ -27,5 +27,5 @@ by-telling cases ends written = (
 )
 
 pub as-said : AsSaid slips × AsSaid runs
-unfolding tabFrom tab joined lastOf every lowest sum inputs result initial arriving keeping ready inputAt resultOf begin brings write reading inTurn wordsOut readAll judgedTurn writeAll instantInTurn onwardInTurn addsInTurn told tellOn
+unfolding tabFrom tab joined lastOf every lowest sum inputs result atStart arriving keeping ready inputAt resultOf begin brings write reading inTurn wordsOut readAll judgedTurn writeAll instantInTurn onwardInTurn addsInTurn told tellOn
 as-said = (by-telling slips refl refl, by-telling runs refl refl)

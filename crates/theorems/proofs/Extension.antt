@@ -6,7 +6,7 @@ use mathlib.Core.Option.{Option, none}
 use mathlib.Core.Path.{_≡_, refl, sym, _∙_}
 use lib.ListN.{length}
 use Rattle.rules.specs.Network.{Network, Obeys}
-use Rattle.rules.specs.Instant.{Waiting, State, initial, written, Reached, running, halted, reached, adds, history}
+use Rattle.rules.specs.Instant.{Waiting, State, atStart, written, Reached, running, halted, reached, adds, history}
 use Rattle.rules.proofs.InstantLaws.{Came, reached-came}
 use Rattle.rules.proofs.ListLaws.{getD-tab, true-or-false}
 use Rattle.rules.proofs.Reach.{sound}
@@ -15,9 +15,9 @@ use Rattle.theorems.proofs.Inside.{inside}
 use Rattle.theorems.proofs.Part.{Part, SameInstant, same-instant}
 use Rattle.theorems.proofs.Stops.{Full, stopped-full}
 
-initial-part : (A B : Network) → Extends A B → Part A (initial A) (initial B)
-unfolding initial
-initial-part A B extends =
+start-part : (A B : Network) → Extends A B → Part A (atStart A) (atStart B)
+unfolding atStart
+start-part A B extends =
     record {
       waiting = λ n node.
           let farther : n < length (B .nodes) = omega (arith, extends .moreNodes) in
@@ -58,9 +58,9 @@ module _ (A B : Network) (T : ℕ) (arrivalsA arrivalsB : List ℕ) (roomA roomB
       → Part A sa sb
   unfolding reached
   part-reached zero h wa wb sa sb ea eb =
-      let sameA : initial A ≡ sa = cc in
-      let sameB : initial B ≡ sb = cc in
-      rw (← sameA, ← sameB) (initial-part A B extends)
+      let sameA : atStart A ≡ sa = cc in
+      let sameB : atStart B ≡ sb = cc in
+      rw (← sameA, ← sameB) (start-part A B extends)
   part-reached (suc t) h wa wb sa sb ea eb =
       let cameA : Came A arrivalsA roomA t sa = reached-came A arrivalsA roomA t wa sa ea in
       let cameB : Came B arrivalsB roomB t sb = reached-came B arrivalsB roomB t wb sb eb in

@@ -12,15 +12,15 @@ use Rattle.rules.specs.Lists.{tabFrom, tab, joined, lastOf, total, count, every
 use Rattle.rules.specs.Kinds.{sum, inputs, result, constantOk}
 use Rattle.rules.specs.Network.{Network, countsOk, nodeOk, channelOk, portsOk}
 use Rattle.rules.specs.Table.{read, refusal, fieldAt, headerAt, nodeAt, nodePiece, nodesUpTo, channelAt, tokenPiece, tokensUpTo, withChannel, channelPiece, channelsUpTo, endsAt, faultyNode, network}
-use Rattle.rules.specs.Instant.{channelIn, initial, arriving, written, keeping, afterWrites, outWords, ready, goesAhead, inputAt, resultOf, waitingAfter, heldAfter, afterReads, judged, instant, onward, reached}
-use Rattle.rules.specs.Refusals.{arrivalFaulty, faultyArrival, ended, run}
+use Rattle.rules.specs.Instant.{channelIn, atStart, arriving, written, keeping, afterWrites, outWords, ready, goesAhead, inputAt, resultOf, waitingAfter, heldAfter, afterReads, judged, instant, onward, reached}
+use Rattle.rules.specs.Refusals.{arrivalFaulty, faultyArrival, allowed, ended, runFrom, run}
 use Rattle.rules.specs.Bench.{twoTogether, oneEmpty, fullQueue}
-use Rattle.rules.proofs.Arrivals.{arriving-none}
+use Rattle.rules.proofs.Arrivals.{nothing-arrives-on}
 use Rattle.theorems.specs.Turns.{times, Orders, Fair, begin, brings, write, reading, inTurn, wordsOut, readAll, judgedTurn, writeAll, instantInTurn, onwardInTurn, reachedInTurn, addsInTurn, historyInTurn}
-use Rattle.theorems.specs.Demand.{Extends, Agree, on}
+use Rattle.theorems.specs.Demand.{Extends, Agree, on, Promised}
 use Rattle.theorems.specs.Instances.{tableL, caseL, wider, tableWider, arrivalsWider, filling, tableFilling, feeding, tableFeeding, alone, rising, falling, threeRising, threeFalling, threeMixed, byTurns, wordsL}
 use Rattle.theorems.proofs.InstanceLaws.{fair-if, fair-by-turns, more-extends}
-use Rattle.theorems.proofs.Promise.{Promised, demand}
+use Rattle.theorems.proofs.Promise.{demand}
 
 -- three of the networks are accepted; the one whose new channel feeds an old node is refused
 pub tables : (network tableL ≡ read caseL) × (network tableWider ≡ read wider) × (network tableFilling ≡ read filling)
@@ -30,7 +30,7 @@ tables = (refl, refl, refl, refl)
 
 -- the words of the runs of case L are those of the rules
 pub words-of-rules : run tableL 30 [] 2048 ≡ ended wordsL
-unfolding run faultyArrival tabFrom tab joined lastOf every lowest sum inputs result initial arriving written keeping afterWrites outWords ready goesAhead inputAt resultOf waitingAfter heldAfter afterReads judged instant onward reached
+unfolding run runFrom allowed faultyArrival tabFrom tab joined lastOf every lowest sum inputs result atStart arriving written keeping afterWrites outWords ready goesAhead inputAt resultOf waitingAfter heldAfter afterReads judged instant onward reached
 words-of-rules = rw (tables .0)
 
 -- the orders of the runs are fair to their networks
@@ -65,7 +65,7 @@ register-only c below (suc i) first = absurd (omega arith)
 
 wider-agrees : Agree caseL 30 [] arrivalsWider
 unfolding arriving
-wider-agrees = record { same = λ c below t h. arriving-none arrivalsWider t c (register-only c below) }
+wider-agrees = record { same = λ c below t h. nothing-arrives-on arrivalsWider t c (register-only c below) }
 
 -- so the promise holds of case L and the wider network, and of case L and the filling one, in whatever fair orders
 pub promised : (ordersA ordersB : ℕ → Orders) (roomA roomB : ℕ) → ((t : ℕ) → Fair caseL (ordersA t))
@@ -83,7 +83,7 @@ promised ordersA ordersB roomA roomB fairA = (
 
 -- of case L and the feeding network, of which all is true but that its table is accepted, it is false: at 3 node 0 writes in the one alone
 pub not-promised : ¬ Promised caseL feeding 30 [] [] (λ t. rising) (λ t. threeRising) 2048 2048
-unfolding tabFrom tab joined lastOf every lowest sum inputs result initial arriving keeping ready inputAt resultOf begin brings write reading inTurn wordsOut readAll judgedTurn writeAll instantInTurn onwardInTurn reachedInTurn addsInTurn historyInTurn
+unfolding tabFrom tab joined lastOf every lowest sum inputs result atStart arriving keeping ready inputAt resultOf begin brings write reading inTurn wordsOut readAll judgedTurn writeAll instantInTurn onwardInTurn reachedInTurn addsInTurn historyInTurn
 not-promised says =
     let fewer : _≡_ {A = ℕ} 0 1 = ap length (says .same 3 (omega arith) on on 0 (suc-le-suc zero-le)) in
     absurd (omega arith)

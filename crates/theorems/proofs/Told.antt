@@ -6,7 +6,7 @@ use mathlib.Core.Path.{_≡_, refl}
 use lib.ListN.{getD}
 use Rattle.rules.specs.Lists.{tab}
 use Rattle.rules.specs.Network.{Network}
-use Rattle.rules.specs.Instant.{initial, Reached, running, Written}
+use Rattle.rules.specs.Instant.{atStart, Reached, running, Written}
 use Rattle.rules.proofs.ListLaws.{getD-tab, tab-ext}
 use Rattle.theorems.specs.Turns.{Orders, onwardInTurn, reachedInTurn, addsInTurn, historyInTurn}
 
@@ -26,7 +26,7 @@ module _ (net : Network) (arrivals : List ℕ) (orders : ℕ → Orders) (room f
 
   -- what a run has come to before instant t
   unfoldable pub told : ℕ → Told
-  told zero = record { come = running [] (initial net); written = tab first (λ c. []) }
+  told zero = record { come = running [] (atStart net); written = tab first (λ c. []) }
   told (suc t) = tellOn t (told t)
 
   pub told-come : (t : ℕ) → told t .come ≡ reachedInTurn net arrivals orders room t

@@ -10,7 +10,7 @@ use lib.IntN.{ℤ}
 use lib.ListN.{getD, length, drop}
 use Rattle.rules.specs.Lists.{tab, joined, lowest}
 use Rattle.rules.specs.Network.{Network, nodeOf, channelOf, isRegister, isOut, outside}
-use Rattle.rules.specs.Instant.{word, Waiting, State, heldIn, initial, isDue, dueNow, arriving, keeping, overfull, released, ready, resultOf, waitFor, Step, stops, goes, Reached, running, halted, stepped, Written}
+use Rattle.rules.specs.Instant.{word, Waiting, State, heldIn, atStart, isDue, dueNow, arriving, keeping, overfull, released, ready, resultOf, waitFor, Step, stops, goes, Reached, running, halted, stepped, Written}
 
 -- how often n stands in a list
 unfoldable pub times : ℕ → List ℕ → ℕ
@@ -111,7 +111,7 @@ onwardInTurn net arrivals orders room t (halted words number i channel) = halted
 
 -- how far a run has come before instant t, with orders given for every instant
 unfoldable pub reachedInTurn : Network → List ℕ → (ℕ → Orders) → ℕ → ℕ → Reached
-reachedInTurn net arrivals orders room zero = running [] (initial net)
+reachedInTurn net arrivals orders room zero = running [] (atStart net)
 reachedInTurn net arrivals orders room (suc t) =
     onwardInTurn net arrivals (orders t) room t (reachedInTurn net arrivals orders room t)
 

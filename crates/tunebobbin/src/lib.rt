@@ -2,7 +2,7 @@
 // include/tunebobbin.h is the same for a reader of C.
 ghost use mathlib.Core.Path.{_≡_};
 ghost use lib.ListN.{length};
-ghost use Rattle.rules.specs.Refusals.{check as checkRule, run as runRule, runSays, listAfter};
+ghost use Rattle.rules.specs.Refusals.{check, run, runSays, listAfter};
 use rules::Checked;
 use rules::Ran;
 
@@ -14,7 +14,7 @@ pub extern "C" fn tunebobbin_check(
     nodes: &mut usize,
     channels: &mut usize,
 ) -> usize
-    ensures { λ r. ⌜ record { number = r; place = now (place .exit); nodes = now (nodes .exit); channels = now (channels .exit) } ≡ checkRule (now (table .entry)) ⌝ }
+    ensures { λ r. ⌜ record { number = r; place = now (place .exit); nodes = now (nodes .exit); channels = now (channels .exit) } ≡ check (now (table .entry)) ⌝ }
 {
     let answer = table::check(table);
     match answer {
@@ -48,8 +48,9 @@ pub extern "C" fn tunebobbin_run(
     channel: &mut usize,
     count: &mut usize,
 ) -> usize
-    ensures { λ r. ⌜ record { number = r; place = now (place .exit); channel = now (channel .exit); count = now (count .exit) } ≡ runSays (runRule (now (table .entry)) horizon (now (arrivals .entry)) (length (now (list .entry)))) ⌝ }
-    ensures { λ _. ⌜ now (list .exit) ≡ listAfter (runRule (now (table .entry)) horizon (now (arrivals .entry)) (length (now (list .entry)))) (now (list .entry)) ⌝ }
+    ensures { λ r. ⌜ record { number = r; place = now (place .exit); channel = now (channel .exit); count = now (count .exit) }
+        ≡ runSays (run (now (table .entry)) horizon (now (arrivals .entry)) (length (now (list .entry)))) ⌝ }
+    ensures { λ _. ⌜ now (list .exit) ≡ listAfter (run (now (table .entry)) horizon (now (arrivals .entry)) (length (now (list .entry)))) (now (list .entry)) ⌝ }
 {
     let answer = engine::run(table, horizon, arrivals, list);
     match answer {

@@ -7,16 +7,16 @@ use mathlib.Core.Path.{_≡_, sym, _∙_}
 use lib.ListN.{length}
 use Rattle.rules.proofs.ListLaws.{lowest-only, lowest-none}
 use borrow.Author.Count.{below-more}
-use Rattle.engine.specs.Setup.{faultyBy}
+use Rattle.engine.specs.Arrivals.{faultyBy}
 use borrow.Author.Needs.{needs}
 use Rattle.engine.proofs.faulty_arrival.Statement.{statement}
 use Rattle.engine.proofs.faulty_arrival.Tie as tie
 
 abbrev Inv-loop : tie.InvT-loop
-Inv-loop arrivals channels writer i₀ i = (i ≤ length arrivals) × ((j : ℕ) → j < i → faultyBy writer channels arrivals j ≡ false)
+Inv-loop plan arrivals i₀ i = (i ≤ length arrivals) × ((j : ℕ) → j < i → faultyBy plan arrivals j ≡ false)
 
 abbrev μ-loop : tie.MeasureT-loop
-μ-loop arrivals channels writer i₀ i = length arrivals - i
+μ-loop plan arrivals i₀ i = length arrivals - i
 
 loop-holds : tie.Need-loop-holds Inv-loop μ-loop
 loop-holds c = (omega arith, λ j h. absurd (omega arith))

@@ -5,8 +5,8 @@ use Rattle.engine.proofs.EntryLaws.{table-taken, refused-by-table, run-
 use Rattle.engine.proofs.run.Statement.{statement}
 use Rattle.engine.proofs.run.Tie as tie
 
-read-requires : tie.Need-read-requires
-read-requires c κs = search needs
+unpack-requires : tie.Need-unpack-requires
+unpack-requires c κs = search needs
 
 enum-known-answer : tie.Need-enum-known-answer
 enum-known-answer c = search needs
@@ -18,13 +18,13 @@ run-taken-requires : tie.Need-run-taken-requires
 run-taken-requires c κs =
     let got = c .before .before .before in
     let s = got .before .before .before .before .args .table .now in
-    table-taken s (got .read .ensures) (c .before .enum-told .given .1) .lawful
+    table-taken s (got .unpack .ensures) (c .before .enum-told .given .1) .lawful
 
 returns : tie.Need-returns
 returns c =
     let got = c .before .before .before in
     let given = got .before .before .before .before .args in
-    refused-by-table (given .table .now) (got .read .ensures) (given .horizon) (given .arrivals .now) (given .list .now) (c .before .answer .given .1)
+    refused-by-table (given .table .now) (got .unpack .ensures) (given .horizon) (given .arrivals .now) (given .list .now) (c .before .answer .given .1)
 
 same-length : tie.Need-same-length
 same-length c = search needs
@@ -34,7 +34,7 @@ returns-2 c =
     let got = c .before .before .before .before .before .before in
     let given = got .before .before .before .before .args in
     let s = given .table .now in
-    let taken = table-taken s (got .read .ensures) (c .before .before .before .before .enum-told .given .1) in
+    let taken = table-taken s (got .unpack .ensures) (c .before .before .before .before .enum-told .given .1) in
     let lawful = taken .lawful in
     run-as-read s taken (given .horizon) (given .arrivals .now) (given .list .now) (c .before .before .run-taken .ensures (lawful .net) (lawful .obeys) (lawful .from))
 
@@ -42,7 +42,7 @@ pub run-spec : {M : Type 1} → statement M
 run-spec =
     tie.close
     (tie.spec
-    read-requires
+    unpack-requires
     enum-known-answer
     enum-told
     run-taken-requires

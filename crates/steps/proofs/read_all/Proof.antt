@@ -1,62 +1,63 @@
--- `steps::read_all` meets its contract. After the turns of the first n nodes they have been read at t and the others are as they were, and
--- `soon` is the earliest instant of the first n. A turn keeps it, since no two nodes read the same channel: node n finds at its ports what
--- was there before the first turn. What is left of the nodes falls. Assumes nothing.
-use Prim.Native.Nat.{_-_, _≤_}
-use native.Mathlib.Numerals.{add-one}
+-- `steps::read_all` meets its contract. After the first pairs their nodes have had their turn, the others are as they were, each pair's
+-- earliest instant is kept, and `soon` is the earliest of those pairs and `from`. What is left of the pairs falls. Assumes nothing.
+use Prim.Native.Nat.{_+_, _-_, _*_, _≤_, _<_}
 use native.Mathlib.Omega.{arith}
-use mathlib.Core.Path.{_≡_, refl}
-use Rattle.steps.specs.Rings.{shape, cells}
-use Rattle.steps.specs.Nodes.{wires, pendings, soonest, ReadBelow}
-use Rattle.steps.proofs.ReadLaws.{read-none, read-next, soonest-next}
 use borrow.Author.Needs.{needs}
+use Rattle.layout.specs.Views.{nodesOf}
+use Rattle.arrays.proofs.PairsInTurn.{PairsRead, pairs-none, pair-ahead, pairs-next, pairs-all}
 use Rattle.steps.proofs.read_all.Statement.{statement}
 use Rattle.steps.proofs.read_all.Tie as tie
 
 abbrev Inv-loop : tie.InvT-loop
-Inv-loop channels nodes t from kind constant period deadline sort base capacity head₀ len₀ tokens input next₀ due₀ value₀ soon₀ n₀ head len next due value soon n =
-    (n ≤ nodes) × ReadBelow (wires kind constant period deadline input) (shape channels sort base capacity) (cells head₀ len₀ tokens) (pendings next₀ due₀ value₀) t n (cells head len tokens) (pendings next due value) × (soon ≡ soonest (pendings next due value) from n)
+Inv-loop plan state₀ t from nodes soon₀ pair₀ state soon pair = (2 * pair ≤ nodesOf plan + 1) × PairsRead plan state₀ t from pair state soon
 
 abbrev μ-loop : tie.MeasureT-loop
-μ-loop channels nodes t from kind constant period deadline sort base capacity head₀ len₀ tokens input next₀ due₀ value₀ soon₀ n₀ head len next due value soon n = nodes - n
+μ-loop plan state₀ t from nodes soon₀ pair₀ state soon pair = nodesOf plan - 2 * pair
+
+-- a pair below the number of nodes that was read
+below : (c : tie.In-loop Inv-loop μ-loop) → 2 * c .before .loop .pair < nodesOf (c .before .before .before .args .plan .now)
+below c = omega (arith, c .loop-test .taken, c .before .before .index .ensures)
+
+index-requires : tie.Need-index-requires Inv-loop μ-loop
+index-requires c κs = search needs
 
 loop-holds : tie.Need-loop-holds Inv-loop μ-loop
-unfolding soonest
-loop-holds c = (search needs, read-none (c .pre .0) (c .pre .5), refl)
+loop-holds c = (omega arith, pairs-none _ _ _ _ (c .before .pre .1) (c .before .pre .2))
 
-turn-requires : tie.Need-turn-requires Inv-loop μ-loop
-turn-requires c κs =
-    let start = c .before .before .before .before .before .before .before in
-    let loop = c .before .before .before .before .before .before .loop in (
-      loop .inv .1 .took .rings,
-      omega arith,
-      start .pre .2,
-      start .pre .3 (loop .n) (c .before .before .before .before .before .loop-test .taken),
-      record { nexts = loop .inv .1 .nexts; dues = loop .inv .1 .dues; values = loop .inv .1 .values },
+mul-loop : tie.Need-mul-loop Inv-loop μ-loop
+mul-loop c =
+    let few = c .before .before .pre .0 .few in
+    search needs
+
+read-pair-requires : tie.Need-read-pair-requires Inv-loop μ-loop
+read-pair-requires c κs =
+    let turn = c .before in
+    let so-far = turn .before .loop .inv .1 in
+    let start = turn .before .before .before in
+    let timely = start .pre .2 in (
+      (start .pre .0, so-far .whole, timely .early, below turn),
+      (so-far .paired _ (below turn), pair-ahead _ _ _ _ _ _ (start .pre .0) timely (below turn) so-far),
     )
 
 earlier-requires : tie.Need-earlier-requires Inv-loop μ-loop
 earlier-requires c κs = search needs
 
-add-n : tie.Need-add-n Inv-loop μ-loop
-add-n c = search needs
+add-pair : tie.Need-add-pair Inv-loop μ-loop
+add-pair c = search needs
 
 loop-less : tie.Need-loop-less Inv-loop μ-loop
-loop-less c = search needs
+loop-less c = omega (arith, below (c .before .before .before))
 
 loop-again : tie.Need-loop-again Inv-loop μ-loop
 loop-again c =
-    let start = c .before .before .before .before .before .before .before .before .before in
-    let loop = c .before .before .before .before .before .before .before .before .loop in
-    let below = c .before .before .before .before .before .before .before .loop-test .taken in (
-      omega arith,
-      rw (add-one (loop .n)) (read-next (start .pre .4) below (start .pre .3 (loop .n) below) (loop .inv .1) (c .before .turn .ensures)),
-      rw (add-one (loop .n)) (soonest-next (start .args .from) (c .before .turn .ensures) (loop .inv .2) (c .earlier .ensures)),
+    let turn = c .before .before .before in
+    let start = turn .before .before .before in (
+      omega (arith, below turn),
+      pairs-next _ _ _ _ _ _ (start .pre .0) (start .pre .2) (below turn) (turn .before .loop .inv .1) _ (omega (arith, start .fits .from)) (c .before .read-pair .ensures) (c .earlier .ensures),
     )
 
 returns : tie.Need-returns Inv-loop μ-loop
-returns c =
-    let last : c .before .loop .n ≡ c .before .before .args .nodes = omega arith in
-    (rw last at (c .before .loop .inv .1), rw last at (c .before .loop .inv .2))
+returns c = pairs-all _ _ _ _ _ _ (omega (arith, c .loop-test .left, c .before .before .index .ensures)) (c .before .loop .inv .1)
 
 pub read-all-spec : {M : Type 1} → statement M
 read-all-spec =
@@ -64,10 +65,12 @@ read-all-spec =
     (tie.spec
     Inv-loop
     μ-loop
+    index-requires
     loop-holds
-    turn-requires
+    mul-loop
+    read-pair-requires
     earlier-requires
-    add-n
+    add-pair
     loop-less
     loop-again
     returns)

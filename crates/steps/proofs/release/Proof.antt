@@ -1,109 +1,103 @@
--- `steps::release` meets its contract. `ready` tests the lengths, so it tells whether every port holds a token. If so, the ports are
--- taken in turn, and each take leaves the later ports as they were: so each port still holds its token, and the result is of what was
--- found before the first take. Else nothing is taken. Assumes nothing.
+-- `steps::release` meets its contract. The number of inputs that stands in the plan is that of the node's kind, so what is taken is what the
+-- node finds; where every port held a token the result is of that, and else the release skips. Assumes nothing.
 use native.Mathlib.Omega.{arith}
 use mathlib.Core.Path.{_≡_, sym, _∙_}
 use borrow.Author.Needs.{needs}
-use Rattle.steps.specs.Rings.{Shape, Cells, shape, cells}
-use Rattle.steps.specs.Taking.{Ported, allHold}
-use Rattle.steps.proofs.TakenPorts.{hold-length, lengths-hold}
-use Rattle.steps.proofs.PortsInTurn.{port-holds, first-port, next-port}
-use Rattle.steps.proofs.ReleaseSteps.{released-ahead, released-skipped}
+use Rattle.layout.specs.Views.{shapeOf, wiresOf, cellsOf}
+use Rattle.layout.proofs.FieldLaws.{NodeSeen, node-seen}
+use Rattle.arrays.specs.Nodes.{inputsAt}
+use Rattle.arrays.proofs.ReleaseSteps.{released-ahead, released-skipped}
+use Rattle.steps.specs.Steps.{TookInputs}
 use Rattle.steps.proofs.release.Statement.{statement}
 use Rattle.steps.proofs.release.Tie as tie
 
-abbrev shape-at : tie.Start → Shape
-shape-at c = shape (c .args .channels) (c .args .sort .now) (c .args .base .now) (c .args .capacity .now)
+-- what the code reads of node n
+seen : (c : tie.Start) → NodeSeen (c .args .plan .now) (c .args .state .now) (c .args .n)
+seen c = node-seen (c .args .plan .now) (c .args .state .now) (c .args .n) (c .pre .1)
 
-abbrev cells-at : tie.Start → Cells
-cells-at c = cells (c .args .head .now) (c .args .len .now) (c .args .tokens .now)
+counts : (c : tie.After-fixed2) → c .fixed2 .result ≡ inputsAt (wiresOf (c .before .before .before .args .plan .now)) (c .before .before .before .args .n)
+counts c = c .fixed2 .ensures ∙ seen (c .before .before .before) .count ∙ c .before .before .before .pre .2 .counted
 
--- the ports, by the number of inputs that is found
-ported : (c : tie.After-inputs-of) → Ported (c .before .args .channels) (c .before .args .input .now) (c .before .args .n) (c .inputs-of .result)
-ported c = rw (c .inputs-of .ensures) (c .before .pre .4)
+-- what node n finds at its ports
+took : (c : tie.After-take-inputs) → TookInputs (shapeOf (c .before .before .before .before .args .plan .now)) (cellsOf (c .before .before .before .before .args .state .now)) (wiresOf (c .before .before .before .before .args .plan .now) .input) (c .before .before .before .before .args .n) (inputsAt (wiresOf (c .before .before .before .before .args .plan .now)) (c .before .before .before .before .args .n)) (cellsOf (c .take-inputs .last .1 .0)) (c .take-inputs .result)
+took c = rw (counts (c .before)) at (c .take-inputs .ensures .inputs)
 
-ready-tells : (c : tie.After-ready) → allHold (shape-at (c .before .before .before)) (cells-at (c .before .before .before)) (c .before .before .before .args .input .now) (c .before .before .before .args .n) (c .before .before .inputs-of .result) ≡ c .ready .result
-ready-tells c = sym (c .ready .ensures ∙ lengths-hold (shape-at (c .before .before .before)) (cells-at (c .before .before .before)) _ _ _)
+fixed-requires : tie.Need-fixed-requires
+fixed-requires c κs = search needs
 
-inputs-of-requires : tie.Need-inputs-of-requires
-inputs-of-requires c κs = c .pre .2
+fixed-requires-2 : tie.Need-fixed-requires-2
+fixed-requires-2 c κs = search needs
 
-ready-requires : tie.Need-ready-requires
-ready-requires c κs = (c .before .before .pre .0 .placed .few, c .before .before .pre .1, ported (c .before))
+take-inputs-requires : tie.Need-take-inputs-requires
+take-inputs-requires c κs =
+    let start = c .before .before .before in
+    (start .pre .0, start .pre .1, rw (counts c) (start .pre .2 .ports))
 
-take-port-requires : tie.Need-take-port-requires
-take-port-requires c κs =
-    let ahead = c .before .before in
-    let counted = ahead .before .before .before in
-    let start = counted .before in
-    let holds = ready-tells (ahead .before) ∙ ahead .if1 .taken in
-    (start .pre .0, start .pre .1, omega arith, ported counted, hold-length _ _ _ _ _ holds 0)
+fixed-requires-3 : tie.Need-fixed-requires-3
+fixed-requires-3 c κs = search needs
 
-take-port-requires-2 : tie.Need-take-port-requires-2
-take-port-requires-2 c κs =
-    let once = c .before .before in
-    let ahead = once .before .before .before in
-    let counted = ahead .before .before .before in
-    let start = counted .before in
-    let holds = ready-tells (ahead .before) ∙ ahead .if1 .taken in
-    let first = first-port _ _ _ _ (ported counted) _ _ (start .pre .0) (once .take-port .ensures .0) in
-    (first .rings, start .pre .1, omega arith, ported counted, port-holds _ _ _ _ (ported counted) _ _ 1 holds first)
-
-take-port-requires-3 : tie.Need-take-port-requires-3
-take-port-requires-3 c κs =
-    let twice = c .before .before in
-    let once = twice .before .before .before in
-    let ahead = once .before .before .before in
-    let counted = ahead .before .before .before in
-    let start = counted .before in
-    let holds = ready-tells (ahead .before) ∙ ahead .if1 .taken in
-    let first = first-port _ _ _ _ (ported counted) _ _ (start .pre .0) (once .take-port .ensures .0) in
-    let second = next-port _ _ _ _ (ported counted) _ _ _ 1 first (twice .take-port2 .ensures .0) in
-    (second .rings, start .pre .1, omega arith, ported counted, port-holds _ _ _ _ (ported counted) _ _ 2 holds second)
+fixed-requires-4 : tie.Need-fixed-requires-4
+fixed-requires-4 c κs = search needs
 
 result-requires : tie.Need-result-requires
-result-requires c κs = search needs
+result-requires c κs =
+    let start = c .before .before .before .before .before .before .before in
+    rw (c .before .fixed3 .ensures, c .fixed4 .ensures, seen start .kind, seen start .constant) (start .pre .2 .kind, start .pre .2 .divisor)
+
+fixed-requires-5 : tie.Need-fixed-requires-5
+fixed-requires-5 c κs = search needs
 
 ahead-requires : tie.Need-ahead-requires
 ahead-requires c κs =
-    let ahead = c .before .before .before .before .before .before .before .before .before .before in
-    let start = ahead .before .before .before .before in
-    (start .pre .5, start .pre .6, start .pre .7)
+    let period = c .before .before .before .before .before .before .before .before in
+    let start = period .before in
+    rw (period .fixed .ensures, c .fixed5 .ensures, seen start .period, seen start .deadline) (start .pre .3, start .pre .2 .period, start .pre .2 .deadline)
 
 returns : tie.Need-returns
 returns c =
-    let thrice = c .before .before in
-    let twice = thrice .before .before .before in
-    let once = twice .before .before .before in
-    let ahead = once .before .before .before in
-    let counted = ahead .before .before .before in
-    let holds = ready-tells (ahead .before) ∙ ahead .if1 .taken in
-    released-ahead (counted .inputs-of .ensures) (counted .before .pre .0) (c .before .result .result) (ported counted) holds
-    (once .take-port .ensures)
-    (twice .take-port2 .ensures)
-    (thrice .take-port3 .ensures)
-    (c .before .result .ensures)
-    (c .ahead .ensures)
+    let deadline = c .before in
+    let makes = deadline .before in
+    let constant = makes .before in
+    let kind = constant .before in
+    let ready = kind .before in
+    let taken = ready .before in
+    let period = taken .before .before .before in
+    let start = period .before in
+    let found = took taken in (
+      released-ahead (found .took) (makes .result .result) (sym (found .ready) ∙ ready .if1 .taken) (found .first (ready .if1 .taken)) (found .second (ready .if1 .taken)) (found .third (ready .if1 .taken))
+          (rw (kind .fixed3 .ensures, constant .fixed4 .ensures, seen start .kind, seen start .constant) at (makes .result .ensures .1))
+          (omega (arith, start .pre .3, start .pre .2 .deadline))
+          (rw (period .fixed .ensures, deadline .fixed5 .ensures, seen start .period, seen start .deadline) at (c .ahead .ensures)),
+      taken .take-inputs .ensures .nodes,
+    )
 
 skipped-requires : tie.Need-skipped-requires
-skipped-requires c κs = search needs
+skipped-requires c κs =
+    let period = c .before .before .before .before in
+    let start = period .before in
+    rw (period .fixed .ensures, seen start .period) (start .pre .3, start .pre .2 .period)
 
 returns-2 : tie.Need-returns-2
 returns-2 c =
-    let skips = c .before in
-    let counted = skips .before .before .before in
-    released-skipped (counted .inputs-of .ensures) (counted .before .pre .0) (ready-tells (skips .before) ∙ skips .if1 .left) (c .skipped .ensures)
+    let taken = c .before .before in
+    let period = taken .before .before .before in
+    let start = period .before in
+    let found = took taken in (
+      released-skipped (found .took) (sym (found .ready) ∙ c .before .if1 .left) (rw (period .fixed .ensures, seen start .period) at (c .skipped .ensures)),
+      taken .take-inputs .ensures .nodes,
+    )
 
 pub release-spec : {M : Type 1} → statement M
 release-spec =
     tie.close
     (tie.spec
-    inputs-of-requires
-    ready-requires
-    take-port-requires
-    take-port-requires-2
-    take-port-requires-3
+    fixed-requires
+    fixed-requires-2
+    take-inputs-requires
+    fixed-requires-3
+    fixed-requires-4
     result-requires
+    fixed-requires-5
     ahead-requires
     returns
     skipped-requires

@@ -1,86 +1,93 @@
--- `steps::turn` meets its contract, by the four outcomes: it is too early for either, and nothing changes; node n is released, as
--- `turn_released` says; its result was due and is written; or neither, and nothing changes. Assumes nothing.
+-- `steps::turn` meets its contract, by the three outcomes: node n is released, as `turn_released` says, and then it is there; its result was
+-- due and is written; or neither, and nothing changes. Assumes nothing.
+use mathlib.Core.Path.{refl, sym, _∙_}
 use borrow.Author.Needs.{needs}
-use Rattle.steps.proofs.TurnLaws.{turned-at, turned-due, turned-idle, turned-early}
-use native.Mathlib.Omega.{arith}
-use mathlib.Core.Path.{refl}
+use Rattle.layout.proofs.FieldLaws.{NodeSeen, node-seen}
+use Rattle.arrays.proofs.TurnsIn.{used, turn-written, turn-idle, turned-in-at}
 use Rattle.steps.proofs.turn.Statement.{statement}
 use Rattle.steps.proofs.turn.Tie as tie
 
-mul-t21 : tie.Need-mul-t21
-mul-t21 c = search needs
+-- what the code reads of node n
+seen : (c : tie.Start) → NodeSeen (c .args .plan .now) (c .args .state .now) (c .args .n)
+seen c = node-seen (c .args .plan .now) (c .args .state .now) (c .args .n) (c .pre .3)
 
-element-copy-out-t24 : tie.Need-element-copy-out-t24
-element-copy-out-t24 c = search needs
+held-requires : tie.Need-held-requires
+held-requires c κs = search needs
 
-mul-t25 : tie.Need-mul-t25
-mul-t25 c = search needs
+held-requires-2 : tie.Need-held-requires-2
+held-requires-2 c κs = search needs
 
-element-copy-out-t28 : tie.Need-element-copy-out-t28
-element-copy-out-t28 c = search needs
-
-mul-t29 : tie.Need-mul-t29
-mul-t29 c = search needs
-
-element-copy-out-t32 : tie.Need-element-copy-out-t32
-element-copy-out-t32 c = search needs
-
-soon-requires : tie.Need-soon-requires
-soon-requires c κs = search needs
-
-returns : tie.Need-returns
-returns c =
-    let start = c .before .before .before .before .before in
-    turned-early (start .pre .4) (start .pre .1) (start .pre .0) (c .if1 .taken) (c .before .soon .ensures)
+held-requires-3 : tie.Need-held-requires-3
+held-requires-3 c κs = search needs
 
 turn-released-requires : tie.Need-turn-released-requires
 turn-released-requires c κs =
-    let start = c .before .before .before .before .before .before .before .before .before .before .before .before in
-    (start .pre .0, start .pre .1, omega arith, refl, start .pre .3, start .pre .4)
+    let value = c .before .before .before in
+    let due = value .before .before in
+    let next = due .before .before in
+    let start = next .before .before in
+    let at = seen start in
+    let now = next .held .ensures ∙ at .next in
+    let below = used _ _ _ (start .pre .1) (start .pre .3) _ (start .pre .2) (rw now at (c .before .if1 .taken)) in (
+      start .pre .1,
+      start .pre .3,
+      start .pre .0 .readable (start .args .n) below,
+      rw (c .before .if1 .taken) (start .pre .2),
+      rw (now, due .held2 .ensures ∙ at .due, value .held3 .ensures ∙ at .value) refl,
+    )
 
-returns-2 : tie.Need-returns-2
-returns-2 c = turned-at (c .before .before .before .before .before .before .if2 .taken) (c .turn-released .ensures)
+returns : tie.Need-returns
+returns c = turned-in-at _ _ _ (c .before .before .if1 .taken) (c .turn-released .ensures)
 
 written-requires : tie.Need-written-requires
 written-requires c κs = search needs
 
-mul-due : tie.Need-mul-due
-mul-due c = search needs
+hold-requires : tie.Need-hold-requires
+hold-requires c κs = search needs
 
-element-write-due : tie.Need-element-write-due
-element-write-due c = search needs
+soon-requires : tie.Need-soon-requires
+soon-requires c κs = search needs
+
+returns-2 : tie.Need-returns-2
+returns-2 c =
+    let written = c .before .before .before in
+    let now = written .before in
+    let later = now .before .before in
+    let value = later .before .before in
+    let due = value .before .before in
+    let next = due .before .before in
+    let start = next .before .before in
+    let at = seen start in
+    rw (c .before .hold .ensures)
+    (turn-written _ _ _ (start .pre .1) (start .pre .3) (λ e. later .if1 .left (next .held .ensures ∙ at .next ∙ e)) (sym (due .held2 .ensures ∙ at .due) ∙ now .if2 .taken)
+    (rw (next .held .ensures ∙ at .next, value .held3 .ensures ∙ at .value) at (written .written .ensures))
+    (c .soon .ensures))
 
 soon-requires-2 : tie.Need-soon-requires-2
 soon-requires-2 c κs = search needs
 
 returns-3 : tie.Need-returns-3
 returns-3 c =
-    let start = c .before .before .before .before .before .before .before .before .before .before .before in
-    turned-due (start .pre .4) (start .pre .1) (start .pre .0) (c .before .before .before .before .if2 .left) (c .before .before .if3 .taken) (c .before .written .ensures) (c .soon2 .ensures)
-
-returns-4 : tie.Need-returns-4
-returns-4 c =
-    let first = c .before .before .before .before .before in
-    let start = first .before .before .before .before in
-    turned-idle (start .pre .4) (start .pre .1) (start .pre .0) (c .before .before .if2 .left) (c .if3 .left) (first .soon .ensures)
+    let later = c .before .before .before in
+    let due = later .before .before .before .before in
+    let next = due .before .before in
+    let start = next .before .before in
+    let at = seen start in
+    turn-idle _ _ _ (start .pre .1) (start .pre .3) (λ e. later .if1 .left (next .held .ensures ∙ at .next ∙ e)) (λ e. c .before .if2 .left (due .held2 .ensures ∙ at .due ∙ e))
+    (rw (next .held .ensures ∙ at .next, due .held2 .ensures ∙ at .due) at (c .soon2 .ensures))
 
 pub turn-spec : {M : Type 1} → statement M
 turn-spec =
     tie.close
     (tie.spec
-    mul-t21
-    element-copy-out-t24
-    mul-t25
-    element-copy-out-t28
-    mul-t29
-    element-copy-out-t32
-    soon-requires
-    returns
+    held-requires
+    held-requires-2
+    held-requires-3
     turn-released-requires
-    returns-2
+    returns
     written-requires
-    mul-due
-    element-write-due
+    hold-requires
+    soon-requires
+    returns-2
     soon-requires-2
-    returns-3
-    returns-4)
+    returns-3)

@@ -4,12 +4,12 @@ use borrow.Author.Needs.{needs}
 use Rattle.table.proofs.check.Statement.{statement}
 use Rattle.table.proofs.check.Tie as tie
 
-read-requires : tie.Need-read-requires
-read-requires c κs = search needs
+unpack-requires : tie.Need-unpack-requires
+unpack-requires c κs = search needs
 
 returns : tie.Need-returns
 unfolding check
-returns c = c .read .ensures .answer
+returns c = c .unpack .ensures .answer
 
 pub check-spec : {M : Type 1} → statement M
-check-spec = tie.close (tie.spec read-requires returns)
+check-spec = tie.close (tie.spec unpack-requires returns)

@@ -80,12 +80,6 @@ loop-again c =
     let bits : c .pattern .result ≡ pattern (node .constant) = c .pattern .ensures ∙ ap pattern (toZ-ofZ w32 (node .constant) (record { sfits = c .before .struct-told .given .1 .1 .1 .0 .1 })) in
     (omega arith, rw bits (node-turn (start .args .s .now) (loop .n) _ node (omega arith) (loop .inv .1) (ap nodeSays (sym (c .before .before .before .p2 .given .1)) ∙ c .before .before .before .before .before .node-piece .ensures)))
 
-mul-t28 : tie.Need-mul-t28 Inv-loop μ-loop
-mul-t28 c = search needs
-
-add-t29 : tie.Need-add-t29 Inv-loop μ-loop
-add-t29 c = search needs
-
 returns-2 : tie.Need-returns-2 Inv-loop μ-loop
 returns-2 c =
     let all : c .before .loop .n ≡ c .before .before .before .args .count = omega arith in
@@ -114,6 +108,4 @@ read-nodes-spec =
     add-n
     loop-less
     loop-again
-    mul-t28
-    add-t29
     returns-2)

@@ -60,12 +60,6 @@ loop-again c = (
   rw (c .field .ensures) (token-next (c .before .before .before .before .loop .inv .1) (sym (c .before .before .there .ensures) ∙ c .before .if1 .taken)),
 )
 
-mul-t17 : tie.Need-mul-t17 Inv-loop μ-loop
-mul-t17 c = search needs
-
-add-t18 : tie.Need-add-t18 Inv-loop μ-loop
-add-t18 c = search needs
-
 returns-2 : tie.Need-returns-2 Inv-loop μ-loop
 returns-2 c =
     let all : c .before .loop .i ≡ c .before .before .before .args .count = omega arith in
@@ -89,6 +83,4 @@ read-tokens-spec =
     add-i
     loop-less
     loop-again
-    mul-t17
-    add-t18
     returns-2)

@@ -1,0 +1,10 @@
+pub mod RingLaws
+pub mod StoreLaws
+pub mod WroteLaws
+pub mod PutLaws
+pub mod TookLaws
+pub mod TakeLaws
+pub mod Places
+pub mod Outcomes
+pub mod AccessLaws
+pub mod Settled
