@@ -12,7 +12,6 @@
 
 /* one node of kind 0 with k 7, period and deadline 10, and a channel to the outside */
 static const uint8_t table[16] = { 0x10, 0x40, 0x80, 0x00, 0x00, 0x50, 0x00, 0x50, 0x00, 0x00, 0x00, 0x38, 0x0F, 0xC0, 0x20, 0x00 };
-static const uint64_t arrivals[1];
 static uint64_t list[4];
 static size_t first, second, third;
 static volatile char *before; /* where the stack stood at the call */
@@ -21,7 +20,7 @@ static void *check(void *none)
 {
     volatile char here = 0;
     before = &here;
-    tunebobbin_check(table, sizeof table, &first, &second, &third);
+    tunebobbin_check_table(table, sizeof table, &first, &second, &third);
     return none;
 }
 
@@ -29,7 +28,7 @@ static void *run(void *none)
 {
     volatile char here = 0;
     before = &here;
-    tunebobbin_run(table, sizeof table, 20, arrivals, 0, list, 4, &first, &second, &third);
+    tunebobbin_run_table(table, sizeof table, 20, NULL, 0, list, 4, &first, &second, &third);
     return none;
 }
 

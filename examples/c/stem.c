@@ -12,65 +12,19 @@
      outside --2 (distance, starts at 6400)--> [2: a / 64, 20/2] ==8==> outside: width of a beam there          */
 #include <inttypes.h>
 #include <stdio.h>
+#include "pack.h"
 #include "tunebobbin.h"
-
-/* ---- Packing a table */
-
-static uint8_t table[TUNEBOBBIN_LONGEST_TABLE];
-static size_t bits; /* so many are packed */
-
-/* Packs the low `width` bits of a value, the highest first. */
-static void put(uint32_t value, unsigned width)
-{
-    while (width > 0) {
-        width -= 1;
-        if (value >> width & 1u)
-            table[bits / 8] = (uint8_t)(table[bits / 8] | 0x80u >> bits % 8);
-        bits += 1;
-    }
-}
-
-static void put_header(unsigned nodes, unsigned channels)
-{
-    put(1, 4);
-    put(nodes, 6);
-    put(channels, 7);
-    put(0, 7);
-}
-
-static void put_node(unsigned kind, unsigned period, unsigned deadline, int32_t constant)
-{
-    put(kind, 5);
-    put(period, 16);
-    put(deadline, 16);
-    put((uint32_t)constant, 32);
-}
-
-static void put_channel(unsigned sort, unsigned writer, unsigned reader, unsigned port, unsigned capacity, unsigned initial)
-{
-    put(sort, 1);
-    put(writer, 6);
-    put(reader, 6);
-    put(port, 2);
-    put(capacity, 7);
-    put(initial, 7);
-}
-
-static void put_token(int32_t token)
-{
-    put((uint32_t)token, 32);
-}
 
 /* Packs the network above; answers the number of bytes. */
 static size_t put_stem(void)
 {
     enum { Q = TUNEBOBBIN_QUEUE, R = TUNEBOBBIN_REGISTER, OUT = TUNEBOBBIN_OUTSIDE };
     put_header(5, 11);
-    put_node(10, 20, 4, 0);             /* 0: ones */
-    put_node(11, 20, 4, 0);             /* 1: first beam */
-    put_node(7, 20, 2, 64);             /* 2: a / 64 */
-    put_node(6, 20, 6, 0);              /* 3: larger */
-    put_node(3, 20, 8, 0);              /* 4: a + b */
+    put_node(TUNEBOBBIN_KIND_ONES, 20, 4, 0);
+    put_node(TUNEBOBBIN_KIND_FIRST_BEAM, 20, 4, 0);
+    put_node(TUNEBOBBIN_KIND_QUOTIENT, 20, 2, 64);
+    put_node(TUNEBOBBIN_KIND_LARGER, 20, 6, 0);
+    put_node(TUNEBOBBIN_KIND_SUM, 20, 8, 0);
     put_channel(Q, OUT, 0, 0, 8, 0);    /* 0: masks */
     put_channel(Q, OUT, 1, 0, 8, 0);    /* 1: masks */
     put_channel(R, OUT, 2, 0, 1, 1);    /* 2: distance */
@@ -84,7 +38,7 @@ static size_t put_stem(void)
     put_channel(Q, 2, OUT, 0, 1, 0);    /* 8: width of a beam */
     put_channel(Q, 3, OUT, 0, 1, 0);    /* 9: widest so far */
     put_channel(Q, 4, OUT, 0, 1, 0);    /* 10: first beam behind */
-    return (bits + 7) / 8;
+    return packed();
 }
 
 /* ---- Calling */
@@ -105,14 +59,24 @@ static const char *name(unsigned channel)
     }
 }
 
+static void print_refusal(size_t number, size_t place)
+{
+    struct tunebobbin_words words = tunebobbin_in_words(number);
+    printf("refused (%zu), %s", number, words.when);
+    if (words.place[0] != 0)
+        printf(": %s %zu", words.place, place);
+}
+
 static void check(const char *what, size_t length)
 {
     size_t place, nodes, channels;
-    size_t number = tunebobbin_check(table, length, &place, &nodes, &channels);
+    size_t number = tunebobbin_check_table(table, length, &place, &nodes, &channels);
+    printf("%s: ", what);
     if (number == TUNEBOBBIN_TAKEN)
-        printf("%s: taken, %zu nodes, %zu channels\n", what, nodes, channels);
+        printf("taken, %zu nodes, %zu channels", nodes, channels);
     else
-        printf("%s: refused, number %zu at place %zu\n", what, number, place);
+        print_refusal(number, place);
+    puts("");
 }
 
 #define ROOM 24
@@ -126,23 +90,25 @@ static void run(const char *what, size_t length, size_t horizon, const uint64_t 
     size_t number;
     for (i = 0; i < ROOM; i += 1)
         list[i] = UNTOUCHED;
-    number = tunebobbin_run(table, length, horizon, arrivals, arrivals_length, list, room, &place, &channel, &count);
+    number = tunebobbin_run_table(table, length, horizon, arrivals, arrivals_length, list, room, &place, &channel, &count);
     printf("%s:\n", what);
     for (i = 0; i < count; i += 1)
         printf("  at %2" PRIu32 " ms, %s: %" PRId32 "\n",
                tunebobbin_word_time(list[i]), name(tunebobbin_word_channel(list[i])), tunebobbin_word_value(list[i]));
     switch (number) {
-    case TUNEBOBBIN_END:
+    case TUNEBOBBIN_ENDED:
         printf("  the horizon was reached, %zu words", count);
         break;
-    case TUNEBOBBIN_OVERFULL:
+    case TUNEBOBBIN_STOPPED_OVERFULL:
         printf("  stopped at %zu ms: the queue of channel %zu is overfull, %zu words", place, channel, count);
         break;
-    case TUNEBOBBIN_NO_ROOM:
+    case TUNEBOBBIN_STOPPED_NO_ROOM:
         printf("  stopped at %zu ms: the list is too short, %zu words", place, count);
         break;
     default:
-        printf("  refused, number %zu at place %zu, %zu words", number, place, count);
+        printf("  ");
+        print_refusal(number, place);
+        printf("; %zu words", count);
         break;
     }
     untouched = 0;
