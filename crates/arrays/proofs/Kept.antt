@@ -30,13 +30,13 @@ timely-kept {p} {s} {z} {t} timely same =
     }
 
 -- what the code then reads of node n, and of pair g
-pub record NodeRead (p s z : List ℕ) (n : ℕ) : Type 0 where
+pub record NodeKept (p s z : List ℕ) (n : ℕ) : Type 0 where
   pub first : getD p (FIRST + n) 0 ≡ getD (waysOf p .first) n 0
   pub due : getD z (DUE + n) 0 ≡ getD (pendingsOf s .due) n 0
   pub value : getD z (VALUE + n) 0 ≡ getD (pendingsOf s .value) n 0
 
-pub node-read : (p s z : List ℕ) (n : ℕ) → n < Ns → nodesFrom z ≡ nodesFrom s → NodeRead p s z n
-node-read p s z n h same =
+pub node-kept : (p s z : List ℕ) (n : ℕ) → n < Ns → nodesFrom z ≡ nodesFrom s → NodeKept p s z n
+node-kept p s z n h same =
     let seen = node-seen p z n h in
     let pendings = pendings-kept s z same in
     record {
@@ -45,5 +45,5 @@ node-read p s z n h same =
       value = seen .value ∙ ap (λ (q : Pendings). getD (q .value) n 0) pendings;
     }
 
-pub soon-read : (s z : List ℕ) (g : ℕ) → g < Ps → nodesFrom z ≡ nodesFrom s → getD z (SOON + g) 0 ≡ getD (soonsOf s) g 0
-soon-read s z g h same = soon-seen z g h ∙ ap (λ (l : List ℕ). getD l g 0) (soons-kept s z same)
+pub soon-kept : (s z : List ℕ) (g : ℕ) → g < Ps → nodesFrom z ≡ nodesFrom s → getD z (SOON + g) 0 ≡ getD (soonsOf s) g 0
+soon-kept s z g h same = soon-seen z g h ∙ ap (λ (l : List ℕ). getD l g 0) (soons-kept s z same)

@@ -52,7 +52,7 @@ module _ (p s : List ℕ) (t n : ℕ) (z : List ℕ) {m : ℕ} (able : AbleIn p)
   turn-whole =
       record {
         rings = turn .turned .took .rings;
-        sized = record { nexts = turn .turned .nexts; dues = turn .turned .dues; values = turn .turned .values };
+        sized = turn .turned .sized;
         pairs = ap length (turn .soons) ∙ whole .pairs;
         unused = still-unused;
       }

@@ -14,6 +14,7 @@ use Rattle.arrays.specs.Instants.{AbleIn, Whole, Timely}
 use Rattle.arrays.specs.Turns.{ReadTo, PairRead, ReadAll}
 use Rattle.arrays.proofs.ReadLaws.{read-none, soonest-same}
 use Rattle.arrays.proofs.SoonLaws.{soonest-given}
+use Rattle.arrays.proofs.PairWrites.{pair-from}
 use Rattle.arrays.proofs.PairTurns.{soon-same}
 
 -- the earliest of an instant that comes and of two nodes, or of one
@@ -64,7 +65,7 @@ pairs-none p s t from whole timely =
     let none : min (2 * 0) (nodesOf p) ≡ 0 = omega arith in
     record {
       whole = whole;
-      read = rw none (read-none (whole .rings) (whole .sized));
+      read = rw none (read-none (whole .rings));
       paired = timely .paired;
       soon = rw none;
     }
@@ -74,23 +75,16 @@ module _ (p s : List ℕ) (t from g : ℕ) (z : List ℕ) {soon : ℕ} (able : A
   before-pair = omega arith
 
   -- the pair's nodes are as they were, so none of their instants is past
-  pub pair-ahead : t ≤ pairSoon (pendingsOf z) g
+  pub pair-ahead : Whole p s → t ≤ pairSoon (pendingsOf z) g
   unfolding pairSoon
-  pair-ahead =
+  pair-ahead whole =
       let same : (k : ℕ) → 2 * g ≤ k → soonAt (pendingsOf z) k ≡ soonAt (pendingsOf s) k = λ k h. soon-same (pendingsOf s) (pendingsOf z) k (so-far .read .others k (omega arith)) in
-      let first : t ≤ soonAt (pendingsOf z) (2 * g) = rw (same (2 * g) (omega arith)) (timely .ahead (2 * g) below) in
-      let second : t ≤ soonAt (pendingsOf z) (2 * g + 1) =
-      by-test (ltb (2 * g + 1) (nodesOf p))
-      (λ e. rw (same (2 * g + 1) (omega arith)) (timely .ahead (2 * g + 1) (ltb-true (2 * g + 1) (nodesOf p) e)))
-      (λ e.
-      let past : nodesOf p ≤ 2 * g + 1 = ltb-false (2 * g + 1) (nodesOf p) e in
-      omega (arith, timely .early, able .few, so-far .whole .unused .next (2 * g + 1) past (omega (arith, able .few)), so-far .whole .unused .due (2 * g + 1) past (omega (arith, able .few)))) in
-      omega (arith, timely .early)
+      rw (same (2 * g) (omega arith), same (2 * g + 1) (omega arith)) (pair-from whole timely g (omega (arith, able .few)))
 
   pub pairs-next : (y : List ℕ) {m then : ℕ} → from ≤ never → PairRead p z t g y m → then ≡ min soon m → PairsRead p s t from (g + 1) y then
   pairs-next y {m} {then} most pair least =
       let all : min (2 * (g + 1)) (nodesOf p) ≡ min (2 * g + 2) (nodesOf p) = omega arith in
-      let earlier : soonest (pendingsOf y) from (2 * g) ≡ soonest (pendingsOf z) from (2 * g) = soonest-same (pendingsOf z) (pendingsOf y) from (2 * g) (λ k h. pair .turned .others k (λ low. absurd (omega arith))) in
+      let earlier : soonest (pendingsOf y) from (2 * g) ≡ soonest (pendingsOf z) from (2 * g) = soonest-same (pendingsOf z) (pendingsOf y) from (2 * g) (λ k h. soon-same (pendingsOf z) (pendingsOf y) k (pair .turned .others k (λ low. absurd (omega arith)))) in
       let before : soon ≡ soonest (pendingsOf z) from (2 * g) = rw before-pair at (so-far .soon) in
       record {
         whole = pair .turned .whole;

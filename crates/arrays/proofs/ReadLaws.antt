@@ -15,7 +15,7 @@ use Rattle.kinds.specs.declared.Pending.{Pending}
 use Rattle.layout.specs.Views.{Shape, Cells, Wires, Pendings}
 use Rattle.rings.specs.Rings.{Rings, Took, heldAt, registerAt}
 use Rattle.arrays.specs.Taking.{portOf, atPort, allHold, found}
-use Rattle.arrays.specs.Nodes.{pendingAt, waitingAt, inputsAt, aheadAt, resultAt, waitingThen, nextThen, takenBelow, soonest, Readable, Sized, Separate, Turned, ReadBelow}
+use Rattle.arrays.specs.Nodes.{pendingAt, waitingAt, inputsAt, aheadAt, resultAt, waitingThen, nextThen, takenBelow, soonAt, soonest, Readable, Separate, Turned, ReadBelow}
 use Rattle.kinds.specs.Nodes.{waitingBy}
 use Rattle.rings.proofs.TookLaws.{took-none, took-ext, took-then, either-takes}
 use Rattle.rules.proofs.Agreeing.{every-ext}
@@ -66,14 +66,11 @@ module _ {nodes : ℕ} (w : Wires) (s : Shape) (x : Cells) (p : Pendings) (t n :
       (λ e. e)
 
 -- before the first turn
-pub read-none : {w : Wires} {s : Shape} {x : Cells} {p : Pendings} {t : ℕ} → Rings s x → Sized p → ReadBelow w s x p t 0 x p
+pub read-none : {w : Wires} {s : Shape} {x : Cells} {p : Pendings} {t : ℕ} → Rings s x → ReadBelow w s x p t 0 x p
 unfolding takenBelow every
-read-none rings sized =
+read-none rings =
     record {
       took = took-none rings;
-      nexts = sized .nexts;
-      dues = sized .dues;
-      values = sized .values;
       waits = λ n h. absurd (not-suc-le-zero h);
       next = λ n h. absurd (not-suc-le-zero h);
       others = λ n h. refl;
@@ -107,18 +104,14 @@ read-next {nodes} {w} {s} {x} {y} {z} {p} {q} {r} {t} {n} {m} sep few ready belo
           (took-then (below .took) (rw (next-same, holds) at (turn .took))
           (λ c h. taken-once w s x p t n sep few c (and-right (aheadAt w s x p t n) (atPort (w .input) n (inputsAt w n) c) (and-left (aheadAt w s x p t n && atPort (w .input) n (inputsAt w n) c) (not (registerAt s c)) h))))
           (λ c. either-takes (every n (λ k. not (aheadAt w s x p t k && atPort (w .input) k (inputsAt w k) c))) (aheadAt w s x p t n && atPort (w .input) n (inputsAt w n) c) (not (registerAt s c)));
-      nexts = turn .nexts;
-      dues = turn .dues;
-      values = turn .values;
       waits = below-suc (λ k. waitingAt r k ≡ waitingThen w s x p t k) n (λ k h. ap (λ (a : Pending). waitingBy (a .due) (a .value)) (turned-below turn k h) ∙ below .waits k h)
           (turn .waits ∙ rw (next-same, due-same, value-same, holds, finds 0, finds 1, finds 2));
       next = below-suc (λ k. getD (r .next) k 0 ≡ nextThen w p t k) n (λ k h. ap (λ (a : Pending). a .next) (turned-below turn k h) ∙ below .next k h) (turn .next ∙ rw next-same);
       others = λ k h. turn .others k (ne-eqb k n (λ e. omega arith)) ∙ below .others k (omega arith);
     }
 
--- the earliest instant of nodes that are as they were
-pub soonest-same : (p q : Pendings) (from k : ℕ) → ((m : ℕ) → m < k → pendingAt q m ≡ pendingAt p m) → soonest q from k ≡ soonest p from k
+-- the earliest instant of nodes that have the same
+pub soonest-same : (p q : Pendings) (from k : ℕ) → ((m : ℕ) → m < k → soonAt q m ≡ soonAt p m) → soonest q from k ≡ soonest p from k
 unfolding soonest
 soonest-same p q from zero same = refl
-soonest-same p q from (suc k) same =
-    ap₂ min (soonest-same p q from k (λ m h. same m (omega arith))) (ap (λ (a : Pending). min (a .next) (a .due)) (same k (omega arith)))
+soonest-same p q from (suc k) same = ap₂ min (soonest-same p q from k (λ m h. same m (omega arith))) (same k (omega arith))

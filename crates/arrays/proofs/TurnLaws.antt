@@ -32,9 +32,12 @@ module _ {w : Wires} {s : Shape} {x : Cells} {p : Pendings} {n : ℕ} (sized : S
       let at-value : getD (set (p .value) n (a .value)) n 0 ≡ a .value = getD-set-same (p .value) n (a .value) 0 (omega arith) in
       record {
         took = took;
-        nexts = length-set (p .next) n (a .next) ∙ sized .nexts;
-        dues = length-set (p .due) n (a .due) ∙ sized .dues;
-        values = length-set (p .value) n (a .value) ∙ sized .values;
+        sized =
+            record {
+              nexts = length-set (p .next) n (a .next) ∙ sized .nexts;
+              dues = length-set (p .due) n (a .due) ∙ sized .dues;
+              values = length-set (p .value) n (a .value) ∙ sized .values;
+            };
         waits = rw (at-due, at-value) waits;
         next = at-next ∙ next;
         others = λ k h.

@@ -45,7 +45,7 @@ pub turned-in-at : (p s : List ℕ) {i t n : ℕ} (z : List ℕ) {m : ℕ} → i
 turned-in-at p s z same turned = rw (← same) turned
 
 module _ (p s : List ℕ) (n : ℕ) (whole : Whole p s) (few : n < 32) where
-  -- a node that is released or has a result due is there
+  -- a node that is released is there
   pub used : (t : ℕ) → t < 2 ^ 24 → getD (pendingsOf s .next) n 0 ≡ t → n < nodesOf p
   used t early now =
       by-test (ltb n (nodesOf p)) (ltb-true n (nodesOf p))

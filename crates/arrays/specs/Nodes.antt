@@ -1,5 +1,5 @@
 -- The nodes' next releases and waiting results, and what an instant's reads make of them. Assumes nothing.
-use Prim.Native.Nat.{ℕ, zero, suc, _+_, _*_, _≤_, _<_, min}
+use Prim.Native.Nat.{ℕ, zero, suc, _+_, _*_, _^_, _≤_, _<_, min}
 use mathlib.Core.Bool.{Bool, false, cond, not, _&&_}
 use mathlib.Core.List.{List}
 use mathlib.Core.Option.{Option, none}
@@ -68,12 +68,15 @@ unfoldable pub soonest : Pendings → ℕ → ℕ → ℕ
 soonest p from zero = from
 soonest p from (suc k) = min (soonest p from k) (soonAt p k)
 
+-- the pendings have an entry for each node
+pub record Sized (p : Pendings) : Type 0 where
+  pub nexts : length (p .next) ≡ 32
+  pub dues : length (p .due) ≡ 32
+  pub values : length (p .value) ≡ 32
+
 -- the first k nodes have had their turn to read at t; the others are as they were
 pub record ReadBelow (w : Wires) (s : Shape) (x : Cells) (p : Pendings) (t k : ℕ) (y : Cells) (q : Pendings) : Type 0 where
   pub took : Took s x (takenBelow w s x p t k) y
-  pub nexts : length (q .next) ≡ 32
-  pub dues : length (q .due) ≡ 32
-  pub values : length (q .value) ≡ 32
   pub waits : (n : ℕ) → n < k → waitingAt q n ≡ waitingThen w s x p t n
   pub next : (n : ℕ) → n < k → getD (q .next) n 0 ≡ nextThen w p t n
   pub others : (n : ℕ) → k ≤ n → pendingAt q n ≡ pendingAt p n
@@ -89,9 +92,7 @@ pub record Released (w : Wires) (s : Shape) (x : Cells) (n : ℕ) (before : Pend
 -- node n has had its turn to read at t; the others are as they were
 pub record Turned (w : Wires) (s : Shape) (x : Cells) (p : Pendings) (t n : ℕ) (y : Cells) (q : Pendings) (moment : ℕ) : Type 0 where
   pub took : Took s x (λ c. (aheadAt w s x p t n && atPort (w .input) n (inputsAt w n) c) && not (registerAt s c)) y
-  pub nexts : length (q .next) ≡ 32
-  pub dues : length (q .due) ≡ 32
-  pub values : length (q .value) ≡ 32
+  pub sized : Sized q
   pub waits : waitingAt q n ≡ waitingThen w s x p t n
   pub next : getD (q .next) n 0 ≡ nextThen w p t n
   pub others : (m : ℕ) → eqb m n ≡ false → pendingAt q m ≡ pendingAt p m
@@ -106,11 +107,11 @@ pub record Readable (channels : ℕ) (w : Wires) (n : ℕ) : Type 0 where
   pub counted : getD (w .count) n 0 ≡ inputsAt w n
   pub ports : Ported channels (w .input) n (inputsAt w n)
 
--- the pendings have an entry for each node
-pub record Sized (p : Pendings) : Type 0 where
-  pub nexts : length (p .next) ≡ 32
-  pub dues : length (p .due) ≡ 32
-  pub values : length (p .value) ≡ 32
+-- node n can be released, with this next release
+pub record Releasable (channels : ℕ) (w : Wires) (n : ℕ) (before : Pending) : Type 0 where
+  pub few : n < 32
+  pub readable : Readable channels w n
+  pub early : before .next < 2 ^ 24
 
 -- no two nodes read the same channel
 pub record Separate (nodes : ℕ) (w : Wires) : Type 0 where

@@ -44,8 +44,8 @@ module _ {net : Network} {p : List ℕ} (planned : Planned net p) (arrivals : Li
   faulty-same i =
       let on = channelIn (getD arrivals i 0) in
       by-test (ltb on (length (net .channels)))
-      (λ e. rw (planned .channels, e, planned .wired .writer on (ltb-true on (length (net .channels)) e)))
-      (λ e. rw (planned .channels, e))
+      (λ e. rw (planned .wired .channels, e, planned .wired .writer on (ltb-true on (length (net .channels)) e)))
+      (λ e. rw (planned .wired .channels, e))
 
   faulty-lowest : faulty ≡ faultyArrival net arrivals
   unfolding faultyArrival

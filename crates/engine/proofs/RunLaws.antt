@@ -130,7 +130,7 @@ module _ {net : Network} {p : List ℕ} {horizon : ℕ} {arrivals before list z 
             full,
           ),
           (
-            rw (runs .starts .planned .channels) (faultless-on net arrivals (runs .faultless)),
+            rw (runs .starts .planned .wired .channels) (faultless-on net arrivals (runs .faultless)),
             so-far .cursor .within,
             omega (arith, same-room, so-far .fits),
           ),

@@ -2,7 +2,8 @@
 use Prim.Native.Nat.{ℕ, _*_}
 use mathlib.Core.List.{List}
 use lib.ListN.{getD, take, drop}
-use Rattle.layout.specs.Layout.{Cs, Ns, Ps, Ts, SORT, BASE, CAPACITY, WRITER, FOLLOW, OUTS, KIND, CONSTANT, PERIOD, DEADLINE, COUNT, FIRST, INPUT, NODES, CHANNELS, OUT, HEAD, LEN, TOKENS, NEXT, DUE, VALUE, SOON}
+use Rattle.layout.specs.Layout.{Cs, Ns, Ps, Ts, SORT, BASE, CAPACITY, WRITER, FOLLOW, OUTS, KIND, CONSTANT, PERIOD, DEADLINE, COUNT, FIRST, INPUT, NODES, CHANNELS, OUT}
+use Rattle.layout.specs.Layout.{HEAD, LEN, TOKENS, NEXT, DUE, VALUE, SOON}
 
 -- the n entries of a list from a place on
 unfoldable pub part : ℕ → ℕ → List ℕ → List ℕ

@@ -19,7 +19,7 @@ use layout::held;
 use layout::hold;
 
 // The lower of two channels.
-pub fn least(a: usize, b: usize) -> usize
+fn least(a: usize, b: usize) -> usize
     ensures { λ r. ⌜ r ≡ min a b ⌝ }
 {
     if b < a { b } else { a }

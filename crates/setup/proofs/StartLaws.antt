@@ -61,7 +61,6 @@ module _ (net : Network) (obeys : Obeys net) (out : ℕ) (p : List ℕ) (plan : 
   plan-stands =
       record {
         nodes = plan .numbers .ofNodes;
-        channels = plan .numbers .ofChannels;
         able = rw
             (plan .numbers .ofNodes, plan .numbers .ofChannels, plan .numbers .firstOut, plan .nodes .kind, plan .nodes .constant, plan .nodes .period, plan .nodes .deadline)
             (record {

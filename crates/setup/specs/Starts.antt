@@ -9,7 +9,7 @@ use Rattle.rules.specs.Instant.{atStart}
 use Rattle.rules.specs.Table.{read}
 use Rattle.table.specs.declared.Network.{Network}
 use Rattle.table.specs.Laid.{laid}
-use Rattle.layout.specs.Views.{nodesOf, channelsOf, shapeOf, wiresOf, waysOf, cellsOf, pendingsOf, soonsOf}
+use Rattle.layout.specs.Views.{nodesOf, shapeOf, wiresOf, waysOf, cellsOf, pendingsOf, soonsOf}
 use Rattle.arrays.specs.Nodes.{Paired}
 use Rattle.arrays.specs.Represents.{Wired, Represents}
 use Rattle.arrays.specs.Instants.{AbleIn, Whole}
@@ -17,7 +17,6 @@ use Rattle.arrays.specs.Instants.{AbleIn, Whole}
 -- a plan that stands for a network
 pub record Planned (net : rules.Network) (p : List ℕ) : Type 0 where
   pub nodes : nodesOf p ≡ length (net .nodes)
-  pub channels : channelsOf p ≡ length (net .channels)
   pub able : AbleIn p
   pub wired : Wired net (shapeOf p) (wiresOf p) (waysOf p)
 

@@ -1,6 +1,6 @@
 -- What the promise of an instant settles: for a network and a state that the arrays stand for, two outcomes have the same answer and the same list.
 -- The state is settled in what it stands for: where the arrivals go on, each node's next release and due instant. Assumes nothing.
-use Prim.Native.Nat.{ℕ, zero, suc, _+_, _≤_, _<_, min}
+use Prim.Native.Nat.{ℕ, suc, _+_, _≤_, _<_, min}
 use native.Mathlib.Omega.{arith}
 use mathlib.Core.List.{List, [], _++_}
 use mathlib.Core.Option.{Option, none, some}
@@ -22,6 +22,7 @@ use Rattle.arrays.specs.Represents.{NextRelease, Represents, Cursor}
 use Rattle.arrays.specs.Instants.{WentOn}
 use Rattle.steps.specs.Steps.{StepSays}
 use Rattle.arrays.proofs.ReleaseLaws.{multiples-apart}
+use Rattle.arrays.proofs.ReadLaws.{soonest-same}
 
 -- a node has one next release from an instant on
 next-once : (node : Node) (t a b : ℕ) → NextRelease node t a → NextRelease node t b → a ≡ b
@@ -65,10 +66,7 @@ module _ (net : Network) (s : Shape) (t : ℕ) (st : State) (x y : Cells) (p q :
       λ i. min (next i) (due i)
 
   soonest-once : (from k : ℕ) → k ≤ length (net .nodes) → soonest p from k ≡ soonest q from k
-  unfolding soonest
-  soonest-once from zero within = refl
-  soonest-once from (suc k) within =
-      λ i. min (soonest-once from k (omega (arith, within)) i) (soon-at-once k (omega (arith, within)) i)
+  soonest-once from k within = soonest-same q p from k (λ n h. soon-at-once n (omega (arith, within)))
 
 -- what an instant of the rules comes to, part by part: the number and channel of a stop, or the words and the state
 abbrev numberIn : rules.Step → ℕ

@@ -9,7 +9,7 @@ ghost use Rattle.layout.specs.Layout.{PLAN, STATE};
 ghost use Rattle.layout.specs.Views.{nodesOf, channelsOf, shapeOf, wiresOf, waysOf, cellsOf, pendingsOf, soonsOf, nodesFrom};
 ghost use Rattle.arrays.specs.Writes.{Climbs};
 ghost use Rattle.arrays.specs.Taking.{portOf, Ported};
-ghost use Rattle.arrays.specs.Nodes.{pendingAt, pairSoon, Readable, Released};
+ghost use Rattle.arrays.specs.Nodes.{pendingAt, pairSoon, Releasable, Released};
 ghost use Rattle.arrays.specs.Instants.{AbleIn, RingsIn, Whole, Timely, OnChannels};
 ghost use Rattle.arrays.specs.Turns.{WroteAlong, WroteOn, WroteAll, GatheredIn, TurnedIn, PairTurned, PairRead, ReadAll};
 ghost use Rattle.steps.specs.Steps.{WroteStamped, TookIn, RestSays, InstantSays};
@@ -302,7 +302,7 @@ fn take_inputs(plan: &[u32; PLAN], state: &mut [u32; STATE], n: usize, count: u3
 
 // A release of node `n`, whose next release and waiting result are `before`.
 fn release(plan: &[u32; PLAN], state: &mut [u32; STATE], before: Pending, n: usize) -> Pending
-    requires { ⌜ RingsIn (now plan) (now state) × (n < 32) × Readable (channelsOf (now plan)) (wiresOf (now plan)) n × (before .next < 2 ^ 24) ⌝ }
+    requires { ⌜ RingsIn (now plan) (now state) × Releasable (channelsOf (now plan)) (wiresOf (now plan)) n before ⌝ }
     ensures released { λ r. ⌜ Released (wiresOf (now (plan .entry))) (shapeOf (now (plan .entry))) (cellsOf (now (state .entry))) n before (cellsOf (now (state .exit))) r ⌝ }
     ensures nodes { λ r. ⌜ nodesFrom (now (state .exit)) ≡ nodesFrom (now (state .entry)) ⌝ }
 {
@@ -323,7 +323,7 @@ fn release(plan: &[u32; PLAN], state: &mut [u32; STATE], before: Pending, n: usi
 
 // Node `n`'s turn to read at its next release, before which its next release and waiting result are `before`. Answers as `turn` does.
 fn turn_released(plan: &[u32; PLAN], state: &mut [u32; STATE], before: Pending, n: usize) -> u32
-    requires { ⌜ Whole (now plan) (now state) × (n < 32) × Readable (channelsOf (now plan)) (wiresOf (now plan)) n × (before .next < 2 ^ 24) × (before ≡ pendingAt (pendingsOf (now state)) n) ⌝ }
+    requires { ⌜ Whole (now plan) (now state) × Releasable (channelsOf (now plan)) (wiresOf (now plan)) n before × (before ≡ pendingAt (pendingsOf (now state)) n) ⌝ }
     ensures { λ r. ⌜ TurnedIn (now (plan .entry)) (now (state .entry)) (before .next) n (now (state .exit)) r ⌝ }
 {
     let after = release(plan, state, before, n);

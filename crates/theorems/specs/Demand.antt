@@ -31,10 +31,21 @@ pub data Stopped : Reached → Type 0 where
 
 -- what is promised of two runs, nodes one after another; `suc t` is the moment after instant t, and `end` any moment
 pub record Promised (A B : Network) (T : ℕ) (arrivalsA arrivalsB : List ℕ) (ordersA ordersB : ℕ → Orders) (roomA roomB : ℕ) : Type 0 where
-  pub same : (t : ℕ) → t ≤ T → Runs (reachedInTurn A arrivalsA ordersA roomA (suc t)) → Runs (reachedInTurn B arrivalsB ordersB roomB (suc t)) → (c : ℕ) → c < length (A .channels) → historyInTurn B arrivalsB ordersB roomB c (suc t) ≡ historyInTurn A arrivalsA ordersA roomA c (suc t)
+  pub same :
+      (t : ℕ)
+      → t ≤ T
+      → Runs (reachedInTurn A arrivalsA ordersA roomA (suc t))
+      → Runs (reachedInTurn B arrivalsB ordersB roomB (suc t))
+      → (c : ℕ)
+      → c < length (A .channels)
+      → historyInTurn B arrivalsB ordersB roomB c (suc t) ≡ historyInTurn A arrivalsA ordersA roomA c (suc t)
   pub ofA : (c : ℕ) → c < length (A .channels) → (t : ℕ) → historyInTurn A arrivalsA ordersA roomA c t ≡ history A arrivalsA roomA c t
   pub ofB : (c : ℕ) → c < length (B .channels) → (t : ℕ) → historyInTurn B arrivalsB ordersB roomB c t ≡ history B arrivalsB roomB c t
-  pub stopsToo : (end : ℕ) (words : List ℕ) (t c : ℕ) → reachedInTurn A arrivalsA ordersA roomA end ≡ halted words 11 t c → t ≤ T → Stopped (reachedInTurn B arrivalsB ordersB roomB (suc t))
+  pub stopsToo :
+      (end : ℕ) (words : List ℕ) (t c : ℕ)
+      → reachedInTurn A arrivalsA ordersA roomA end ≡ halted words 11 t c
+      → t ≤ T
+      → Stopped (reachedInTurn B arrivalsB ordersB roomB (suc t))
 
 -- The whole demand, phrase by phrase. The hypotheses:
 --   "an accepted network A and an accepted network B": each is what some table's bytes are read as, by `network`;

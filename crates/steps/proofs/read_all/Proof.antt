@@ -36,7 +36,7 @@ read-pair-requires c κs =
     let start = turn .before .before .before in
     let timely = start .pre .2 in (
       (start .pre .0, so-far .whole, timely .early, below turn),
-      (so-far .paired _ (below turn), pair-ahead _ _ _ _ _ _ (start .pre .0) timely (below turn) so-far),
+      (so-far .paired _ (below turn), pair-ahead _ _ _ _ _ _ (start .pre .0) timely (below turn) so-far (start .pre .1)),
     )
 
 earlier-requires : tie.Need-earlier-requires Inv-loop μ-loop

@@ -30,9 +30,7 @@ turn-released-requires c κs =
     let now = next .held .ensures ∙ at .next in
     let below = used _ _ _ (start .pre .1) (start .pre .3) _ (start .pre .2) (rw now at (c .before .if1 .taken)) in (
       start .pre .1,
-      start .pre .3,
-      start .pre .0 .readable (start .args .n) below,
-      rw (c .before .if1 .taken) (start .pre .2),
+      record { few = start .pre .3; readable = start .pre .0 .readable (start .args .n) below; early = rw (c .before .if1 .taken) (start .pre .2) },
       rw (now, due .held2 .ensures ∙ at .due, value .held3 .ensures ∙ at .value) refl,
     )
 

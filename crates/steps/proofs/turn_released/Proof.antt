@@ -7,7 +7,7 @@ use Rattle.steps.proofs.turn_released.Tie as tie
 release-requires : tie.Need-release-requires
 release-requires c κs =
     let start = c .before in
-    (start .pre .0 .rings, start .pre .1, start .pre .2, start .pre .3)
+    (start .pre .0 .rings, start .pre .1)
 
 hold-requires : tie.Need-hold-requires
 hold-requires c κs = search needs
@@ -29,7 +29,7 @@ returns c =
     let released = first .before .before in
     let start = released .before .before in
     rw (third .hold3 .ensures, second .hold2 .ensures, first .hold .ensures)
-    (turn-stored _ _ _ (start .pre .0) (start .pre .1) _ (start .pre .4) (released .release .ensures .1) (released .release .ensures .0) (c .soon .ensures))
+    (turn-stored _ _ _ (start .pre .0) (start .pre .1 .few) _ (start .pre .2) (released .release .ensures .1) (released .release .ensures .0) (c .soon .ensures))
 
 pub turn-released-spec : {M : Type 1} → statement M
 turn-released-spec =

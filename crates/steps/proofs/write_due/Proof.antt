@@ -7,7 +7,7 @@ use mathlib.Core.Logic.{⊎-elim}
 use mathlib.Core.Path.{_≡_, _∙_}
 use Rattle.layout.specs.Views.{nodesOf, channelsOf}
 use Rattle.arrays.specs.Turns.{WroteOn}
-use Rattle.arrays.proofs.Kept.{whole-kept, soon-read}
+use Rattle.arrays.proofs.Kept.{whole-kept, soon-kept}
 use Rattle.arrays.proofs.PairWrites.{pair-not-due, on-none, pair-due, pair-skip, on-all}
 use borrow.Author.Needs.{needs}
 use Rattle.steps.proofs.write_due.Statement.{statement}
@@ -70,7 +70,7 @@ loop-again c =
     let test = c .before .before .before in
     let at = test .before in
     let a = at .before .before .before in
-    let kept = soon-read (a .args .state .now) (at .loop .state) (at .loop .pair) (there test .0) (at .loop .inv .1 .nodes) in
+    let kept = soon-kept (a .args .state .now) (at .loop .state) (at .loop .pair) (there test .0) (at .loop .inv .1 .nodes) in
     rw (w .1, w .2) (omega (arith, there test .0), pair-skip (at .loop .pair) (pair-not-due (a .pre .1) (a .pre .0 .few) (a .pre .2) (at .loop .pair) (λ e. w .0 .left (c .before .held .ensures ∙ kept ∙ e))) (at .loop .inv .1)))
     (c .if1 .came)
 

@@ -8,7 +8,7 @@ use mathlib.Core.Path.{_≡_, sym, _∙_}
 use lib.ListN.{getD}
 use Rattle.layout.specs.Views.{nodesOf, pendingsOf}
 use Rattle.arrays.specs.Turns.{WroteOn}
-use Rattle.arrays.proofs.Kept.{NodeRead, node-read}
+use Rattle.arrays.proofs.Kept.{NodeKept, node-kept}
 use Rattle.arrays.proofs.PairWrites.{due-there, on-none, on-due, on-skip}
 use borrow.Author.Needs.{needs}
 use Rattle.steps.proofs.write_pair.Statement.{statement}
@@ -47,10 +47,10 @@ index-requires c κs = search needs
 -- what is read of node n, whose fields are those at the start; where it is due, it is there
 read : (c : tie.After-held Inv-loop μ-loop)
     → let at = c .before .before .before in
-    NodeRead (at .before .args .plan .now) (at .before .args .state .now) (at .loop .state) (at .loop .n)
+    NodeKept (at .before .args .plan .now) (at .before .args .state .now) (at .loop .state) (at .loop .n)
 read c =
     let at = c .before .before .before in
-    node-read (at .before .args .plan .now) (at .before .args .state .now) (at .loop .state) (at .loop .n) (omega (arith, at .before .pre .0 .few, at .before .pre .3)) (at .loop .inv .1 .nodes)
+    node-kept (at .before .args .plan .now) (at .before .args .state .now) (at .loop .state) (at .loop .n) (omega (arith, at .before .pre .0 .few, at .before .pre .3)) (at .loop .inv .1 .nodes)
 
 due : (c : tie.Then1 Inv-loop μ-loop)
     → let at = c .before .before .before .before in
