@@ -35,8 +35,8 @@ pub data Rising (place : ℕ → ℕ) : ℕ → ℕ → List ℕ → Type 0 wher
 
 module _ {place : ℕ → ℕ} where
   pub rising_within : {lower low high higher : ℕ} {l : List ℕ} → lower ≤ low → high ≤ higher → Rising place low high l → Rising place lower higher l
-  rising_within h k (over up) = over (le_trans h (le_trans up k))
-  rising_within h k (next {w = w} fits up r) = next fits (le_trans h up) (rising_within (le_refl (suc (place w))) k r)
+  rising_within {lower = lower} {higher = higher} h k (over up) = over (le_trans h (le_trans up k))
+  rising_within {lower = lower} {higher = higher} h k (next {w = w} fits up r) = next fits (le_trans h up) (rising_within {lower = suc (place w)} {higher = higher} (le_refl (suc (place w))) k r)
 
   pub rising_append : {low middle high : ℕ} {a b : List ℕ} → Rising place low middle a → Rising place middle high b → Rising place low high (a ++ b)
   rising_append {high = high} (over up) s = rising_within up (le_refl high) s
