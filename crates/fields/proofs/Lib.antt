@@ -1,4 +1,5 @@
 pub mod Turn
 pub mod Signs
 pub mod Readers
+
 pub mod Settled
