@@ -3,25 +3,26 @@
 use Rattle.std.proofs.Common.{refl}
 use mathlib.Core.Path.{◌∙⁻¹◌, Σ_path}
 use Rattle.rules.proofs.Settle.{Settled}
+use Rattle.kinds.specs.contracts as contracts
 use Rattle.kinds.proofs as calls
 
-pub inputs : Settled calls.inputs.ended calls.inputs.Reads.Learnt
+pub inputs : Settled contracts.inputs.ended calls.inputs.Reads.Learnt
 inputs κs args o p e f = Σ_path (e ∙⁻¹ f) refl
 
-pub result : Settled calls.result.ended calls.result.Reads.Learnt
+pub result : Settled contracts.result.ended calls.result.Reads.Learnt
 result κs args o p e f = Σ_path (e.0 ∙⁻¹ f.0) refl
 
-pub earlier : Settled calls.earlier.ended calls.earlier.Reads.Learnt
+pub earlier : Settled contracts.earlier.ended calls.earlier.Reads.Learnt
 earlier κs args o p e f = Σ_path (e ∙⁻¹ f) refl
 
-pub written : Settled calls.Pending.written.ended calls.Pending.written.Reads.Learnt
+pub written : Settled contracts.Pending.written.ended calls.Pending.written.Reads.Learnt
 written κs args o p e f = Σ_path (e ∙⁻¹ f) refl
 
-pub ahead : Settled calls.Pending.ahead.ended calls.Pending.ahead.Reads.Learnt
+pub ahead : Settled contracts.Pending.ahead.ended calls.Pending.ahead.Reads.Learnt
 ahead κs args o p e f = Σ_path (e ∙⁻¹ f) refl
 
-pub skipped : Settled calls.Pending.skipped.ended calls.Pending.skipped.Reads.Learnt
+pub skipped : Settled contracts.Pending.skipped.ended calls.Pending.skipped.Reads.Learnt
 skipped κs args o p e f = Σ_path (e ∙⁻¹ f) refl
 
-pub soon : Settled calls.Pending.soon.ended calls.Pending.soon.Reads.Learnt
+pub soon : Settled contracts.Pending.soon.ended calls.Pending.soon.Reads.Learnt
 soon κs args o p e f = Σ_path (e ∙⁻¹ f) refl

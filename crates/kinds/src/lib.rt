@@ -1,6 +1,8 @@
 // What a node computes and how its state moves on, by value.
+#![tactic(auto)]
+
 ghost use Rattle.std.specs.Prelude.{◌≡◌, ◌+◌, ◌^◌, ◌<◌, min, true, false, if◌then◌else◌, nat_eq};
-ghost use Rattle.rules.specs.Kinds.{signed, smaller, larger, quotient, is_zero, result, inputs};
+ghost use Rattle.rules.specs.Kinds.{signed, smaller, larger, quotient, is_zero, result as kind_result, inputs};
 ghost use Rattle.kinds.specs.Nodes.{never, given, absent, made_of, made_says, ahead_of};
 
 // Later than any instant: a node with nothing waiting is due then.
@@ -13,7 +15,7 @@ const INPUTS: [u32; 12] = [0, 1, 1, 2, 2, 2, 2, 1, 3, 2, 1, 1];
 
 pub fn inputs(kind: u32) -> u32
     requires { kind < 12 }
-    ensures* { λ r. ⌜ r ≡ inputs kind ⌝ }
+    ensures { result ≡ inputs kind }
 {
     INPUTS[fields::wide(kind)]
 }
@@ -28,7 +30,7 @@ pub struct Made {
 }
 
 fn smaller(a: u32, b: u32) -> u32
-    ensures* { λ r. ⌜ signed r ≡ smaller (signed a) (signed b) ⌝ }
+    ensures { signed result ≡ smaller (signed a) (signed b) }
 {
     if fields::signed(b) < fields::signed(a) {
         b
@@ -38,7 +40,7 @@ fn smaller(a: u32, b: u32) -> u32
 }
 
 fn larger(a: u32, b: u32) -> u32
-    ensures* { λ r. ⌜ signed r ≡ larger (signed a) (signed b) ⌝ }
+    ensures { signed result ≡ larger (signed a) (signed b) }
 {
     if fields::signed(a) < fields::signed(b) {
         b
@@ -50,7 +52,7 @@ fn larger(a: u32, b: u32) -> u32
 // The quotient toward zero; the one that 32 bits do not hold is the least number again.
 fn quotient(a: i32, k: i32) -> i32
     requires { is_zero k ≡ false }
-    ensures* { λ r. ⌜ r ≡ quotient a k ⌝ }
+    ensures { result ≡ quotient a k }
 {
     if k == -1 {
         if a == -2147483648 {
@@ -61,14 +63,14 @@ fn quotient(a: i32, k: i32) -> i32
 }
 
 fn chosen(a: u32, b: u32, c: u32) -> u32
-    ensures* { λ r. ⌜ signed r ≡ (if is_zero (signed a) then signed c else signed b) ⌝ }
+    ensures { signed result ≡ (if is_zero (signed a) then signed c else signed b) }
 {
     if a == 0 { c } else { b }
 }
 
 // A result that is there.
 fn given(value: u32) -> Made
-    ensures* { λ r. ⌜ r ≡ given value ⌝ }
+    ensures { result ≡ given value }
 {
     Made {
         present: true,
@@ -78,7 +80,7 @@ fn given(value: u32) -> Made
 
 // `b`, or nothing where `a` is 0.
 fn passed(a: u32, b: u32) -> Made
-    ensures* { λ r. ⌜ r ≡ (if nat_eq a 0 then absent else given b) ⌝ }
+    ensures { result ≡ (if nat_eq a 0 then absent else given b) }
 {
     if a == 0 {
         return Made {
@@ -92,8 +94,8 @@ fn passed(a: u32, b: u32) -> Made
 // The result of a kind with constant `k` on the inputs `a`, `b` and `c`.
 pub fn result(kind: u32, k: u32, a: u32, b: u32, c: u32) -> Made
     requires { (kind < 12) × (kind ≡ 7 → is_zero (signed k) ≡ false) }
-    ensures* made { λ r. ⌜ r ≡ made_of (result kind (signed k) (signed a) (signed b) (signed c)) ⌝ }
-    ensures* says { λ r. ⌜ made_says r ≡ result kind (signed k) (signed a) (signed b) (signed c) ⌝ }
+    ensures made { result ≡ made_of (kind_result kind (signed k) (signed a) (signed b) (signed c)) }
+    ensures says { made_says result ≡ kind_result kind (signed k) (signed a) (signed b) (signed c) }
 {
     match kind {
         0 => given(k),
@@ -115,7 +117,7 @@ pub fn result(kind: u32, k: u32, a: u32, b: u32, c: u32) -> Made
 
 // The earlier of two instants.
 pub fn earlier(a: u32, b: u32) -> u32
-    ensures* { λ r. ⌜ r ≡ min a b ⌝ }
+    ensures { result ≡ min a b }
 {
     if b < a { b } else { a }
 }
@@ -131,7 +133,7 @@ pub struct Pending {
 impl Pending {
     // After its result is written: nothing waits.
     pub fn written(self) -> Self
-        ensures* { λ r. ⌜ r ≡ record { next = self.next; due = never; value = self.value } ⌝ }
+        ensures { result ≡ record { next = self.next; due = never; value = self.value } }
     {
         Pending {
             next: self.next,
@@ -143,7 +145,7 @@ impl Pending {
     // After a release that goes ahead: its result waits, unless it is absent.
     pub fn ahead(self, period: u32, deadline: u32, made: Made) -> Self
         requires { (self.next < 2 ^ 24) × (period < 65536) × (deadline < 65536) }
-        ensures* { λ r. ⌜ r ≡ ahead_of self period deadline made ⌝ }
+        ensures { result ≡ ahead_of self period deadline made }
     {
         let next = self.next + period;
         if made.present {
@@ -163,7 +165,7 @@ impl Pending {
     // After a release that skips: nothing waits.
     pub fn skipped(self, period: u32) -> Self
         requires { (self.next < 2 ^ 24) × (period < 65536) }
-        ensures* { λ r. ⌜ r ≡ record { next = self.next + period; due = never; value = self.value } ⌝ }
+        ensures { result ≡ record { next = self.next + period; due = never; value = self.value } }
     {
         Pending {
             next: self.next + period,
@@ -174,7 +176,7 @@ impl Pending {
 
     // The earlier of the next release and the due instant.
     pub fn soon(self) -> u32
-        ensures* { λ r. ⌜ r ≡ min self.next self.due ⌝ }
+        ensures { result ≡ min self.next self.due }
     {
         earlier(self.next, self.due)
     }

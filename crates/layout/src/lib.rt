@@ -1,5 +1,7 @@
 // Where each field of a run stands: all that stays over it is one array, the plan, and all that changes is another, the state. A field is a
 // region of an array, an entry for each channel, node or place in a ring; a new field is a new region.
+#![tactic(auto)]
+
 ghost use Rattle.std.specs.Prelude.{◌≡◌, ◌+◌, ◌<◌, get_or, set};
 ghost use Rattle.layout.specs.Layout.{PLAN, STATE};
 

@@ -10,6 +10,7 @@ use Rattle.pieces.specs.declared.HeaderRead.{HeaderRead}
 use Rattle.pieces.specs.declared.NodeRead.{NodeRead}
 use Rattle.pieces.specs.declared.ChannelRead.{ChannelRead}
 use Rattle.pieces.specs.Says.{header_says, node_says, channel_says}
+use Rattle.pieces.specs.contracts as contracts
 use Rattle.pieces.proofs as calls
 
 -- what is found by a reading: what was read, or the refusal with its number and place
@@ -38,17 +39,17 @@ channel_says_once = once_by (found_by ChannelRead.Read ChannelRead.Refused) foun
     found (ChannelRead.Read ch) = refl
     found (ChannelRead.Refused why) = refusal_found (ChannelRead.Refused Refusal.Version) ChannelRead.Refused [] why
 
-pub number_of : Settled calls.number_of.ended calls.number_of.Reads.Learnt
+pub number_of : Settled contracts.number_of.ended calls.number_of.Reads.Learnt
 number_of κs args o p e f = Σ_path (e ∙⁻¹ f) refl
 
-pub place_of : Settled calls.place_of.ended calls.place_of.Reads.Learnt
+pub place_of : Settled contracts.place_of.ended calls.place_of.Reads.Learnt
 place_of κs args o p e f = Σ_path (e ∙⁻¹ f) refl
 
-pub read_header : Settled calls.read_header.ended calls.read_header.Reads.Learnt
+pub read_header : Settled contracts.read_header.ended calls.read_header.Reads.Learnt
 read_header κs args o p e f = Σ_path (same header_says_once e f) refl
 
-pub node_piece_law : Settled calls.node_piece.ended calls.node_piece.Reads.Learnt
+pub node_piece_law : Settled contracts.node_piece.ended calls.node_piece.Reads.Learnt
 node_piece_law κs args o p e f = Σ_path (same node_says_once e f) refl
 
-pub channel_piece_law : Settled calls.channel_piece.ended calls.channel_piece.Reads.Learnt
+pub channel_piece_law : Settled contracts.channel_piece.ended calls.channel_piece.Reads.Learnt
 channel_piece_law κs args o p e f = Σ_path (same channel_says_once e f) refl

@@ -1,4 +1,6 @@
 // The header, a node and a channel's 29 bits: each piece is read whole and then checked.
+#![tactic(auto)]
+
 ghost use Rattle.std.specs.Prelude.{◌≡◌, ◌+◌, ◌*◌, ◌≤◌, ◌<◌, length};
 ghost use Rattle.rules.specs.Kinds.{constant_ok};
 ghost use Rattle.rules.specs.Network.{counts_ok, node_ok, end_ok, channel_ok};

@@ -39,6 +39,7 @@ unfolding history adds
 went net arrivals room t runs = go (reached net arrivals room (suc t)) refl runs
   where
     go : (r : Reached) → reached net arrivals room (suc t) ≡ r → Runs r → Went net arrivals room t
+    go (halted words number instant channel) e now = elim now [ ]
     go (running words st) e now =
         let came : Came net arrivals room t st = reached_came net arrivals room t words st e in
         record { words = came.before; st = came.old; running = came.running; adds = λ c. rw (e, came.running) }

@@ -1,1 +1,2 @@
 // No code: what is true of the rules whatever the code, in specs/ and proofs/.
+#![tactic(auto)]

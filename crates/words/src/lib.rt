@@ -1,4 +1,6 @@
 // A word, an arrival or an output: its channel, its time and its value.
+#![tactic(auto)]
+
 ghost use Rattle.std.specs.Prelude.{◌≡◌, ◌%◌, ◌^◌, ◌<◌};
 ghost use Rattle.rules.specs.Kinds.{signed};
 ghost use Rattle.rules.specs.Instant.{word, channel_in, time_in};
