@@ -8,7 +8,7 @@ ghost use Rattle.rules.specs.Table.{field_at};
 ghost use Rattle.fields.specs.Bits.{field_or_end};
 
 // A field, or that the bits end before or inside it.
-#[derive(Drop)]
+#[derive(Clone, Copy)]
 pub enum Bits {
     Value(u32),
     End,
@@ -80,7 +80,7 @@ fn take_at(s: &[u8], at: usize, width: usize) -> Bits
 }
 
 // A reader of lent bytes: the bytes, and the bit that it stands at.
-#[derive(Drop)]
+#[derive(Clone, Copy)]
 pub struct Reader<'a> {
     pub bytes: &'a [u8],
     pub at: usize,

@@ -23,7 +23,7 @@ pub fn inputs(kind: u32) -> u32
 // ---- A node's result, on tokens by their 32 bits
 
 // A result, or that it is absent; then the value is 0.
-#[derive(Drop)]
+#[derive(Clone, Copy)]
 pub struct Made {
     pub present: bool,
     pub value: u32,
@@ -123,7 +123,7 @@ pub fn earlier(a: u32, b: u32) -> u32
 }
 
 // A node's next release and its waiting result, which move on together.
-#[derive(Drop)]
+#[derive(Clone, Copy)]
 pub struct Pending {
     pub next: u32,
     pub due: u32,

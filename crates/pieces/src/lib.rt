@@ -11,21 +11,21 @@ ghost use Rattle.pieces.specs.Says.{header_says, node_says, channel_says};
 use rules::{Channel, Node, Refusal};
 
 // What a header comes to.
-#[derive(Drop)]
+#[derive(Clone, Copy)]
 pub enum HeaderRead {
     Counts { nodes: usize, channels: usize },
     Refused(Refusal),
 }
 
 // What a node's piece comes to.
-#[derive(Drop)]
+#[derive(Clone, Copy)]
 pub enum NodeRead {
     Read(Node),
     Refused(Refusal),
 }
 
 // What a channel's piece comes to.
-#[derive(Drop)]
+#[derive(Clone, Copy)]
 pub enum ChannelRead {
     Read(Channel),
     Refused(Refusal),

@@ -11,7 +11,7 @@ use libc::{STDIN_FILENO, STDOUT_FILENO};
 const FULL: usize = 24581;
 
 // What reading comes to: so many bytes, none at the end, or that a read failed.
-#[derive(Drop)]
+#[derive(Clone, Copy)]
 enum Input {
     Bytes(usize),
     Failed,

@@ -1,7 +1,7 @@
 // The types that code and definitions share. The rules themselves are in specs/, a file for each section of document 01.
 
 // A node, as its 69 bits have it.
-#[derive(Drop)]
+#[derive(Clone, Copy)]
 pub struct Node {
     pub kind: u32,
     pub period: u32,
@@ -10,7 +10,7 @@ pub struct Node {
 }
 
 // A channel, as its 29 bits have it. Its tokens stand beside it.
-#[derive(Drop)]
+#[derive(Clone, Copy)]
 pub struct Channel {
     pub sort: u32,
     pub writer: u32,
@@ -21,7 +21,7 @@ pub struct Channel {
 }
 
 // Why an input is refused, with its place: refusals 1 to 10, in the order of their numbers.
-#[derive(Drop)]
+#[derive(Clone, Copy)]
 pub enum Refusal {
     BitsEnd(usize),
     Version,
@@ -36,14 +36,14 @@ pub enum Refusal {
 }
 
 // What the check of a table answers: its node and channel counts, or a refusal.
-#[derive(Drop)]
+#[derive(Clone, Copy)]
 pub enum Checked {
     Taken { nodes: usize, channels: usize },
     Refused(Refusal),
 }
 
 // What a run answers: the count of its words and its end, a stop with its instant and channel, or a refusal.
-#[derive(Drop)]
+#[derive(Clone, Copy)]
 pub enum Ran {
     End {
         count: usize,

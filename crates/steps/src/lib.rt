@@ -79,7 +79,7 @@ fn write_due(plan: &[u32; PLAN], state: &mut [u32; STATE], t: u32) -> usize
 }
 
 // Where the arrivals go on, the time of the one there, or never, and the lowest channel without room.
-#[derive(Drop)]
+#[derive(Clone, Copy)]
 struct Arrived {
     next: usize,
     time: u32,
@@ -174,7 +174,7 @@ fn holds(plan: &[u32; PLAN], state: &[u32; STATE], n: usize, p: usize) -> bool
 }
 
 // What a node finds at its ports: whether every one holds a token, and if so the tokens, 0 where the node has no such port.
-#[derive(Drop)]
+#[derive(Clone, Copy)]
 struct Inputs {
     ready: bool,
     a: u32,
@@ -379,7 +379,7 @@ fn read_all(plan: &[u32; PLAN], state: &mut [u32; STATE], t: u32, from: u32) -> 
 
 // What an instant comes to: a full queue, too many words, or how many words it had, where the arrivals go on and the next instant at
 // which something happens.
-#[derive(Drop)]
+#[derive(Clone, Copy)]
 pub enum Step {
     Full(usize),
     Short,

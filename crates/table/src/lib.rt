@@ -11,14 +11,14 @@ use pieces::{ChannelRead, HeaderRead, NodeRead};
 use rules::{Checked, Refusal};
 
 // Whether all pieces of one sort were read, or the first refusal.
-#[derive(Drop)]
+#[derive(Clone, Copy)]
 enum Progress {
     Done,
     Refused(Refusal),
 }
 
 // The bit behind the channels once all of them were read, or the first refusal.
-#[derive(Drop)]
+#[derive(Clone, Copy)]
 enum Behind {
     Bit(usize),
     Refused(Refusal),
