@@ -1,6 +1,6 @@
 /* Tunebobbin runs a network of periodic tasks joined by queues and registers. The network is a
    table of bytes, the inputs are words with a time, and so are the outputs. The same table and the
-   same inputs give the same words everywhere. Link with libtunebobbin.a (x86-64).
+   same inputs give the same words everywhere. Link with libtunebobbin.a (x86-64-v2).
 
    tunebobbin_check_table   looks at a table: good, or refused by number and place
    tunebobbin_run_table     checks and runs a table from 0 ms to a horizon
