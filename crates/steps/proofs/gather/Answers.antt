@@ -26,14 +26,14 @@ loop-c-preserved c =
     let writer : n ≡ get_or (ways_of c.args.plan.now).writer c.loop-c.c 0 = c.index-n.ensures ∙ channel.writer in
     let turn : Adds c.args.t (ways_of c.args.plan.now).writer (pendings_of c.args.state.now).due (pendings_of c.args.state.now).value c.loop-c.c c.loop-c.words c.loop-c.count c.if-n-lt32.words c.if-n-lt32.count =
     elim c.if-n-lt32.branch [
-      then-n-lt32+then-held-t w ↦
-        let seen = node_seen c.args.plan.now c.args.state.now n w.if-n-lt32.true in
-        rw (w.words-is, w.count-is)
-        (adds_word so.places below (rw writer at w.if-n-lt32.true) (rw writer at (sym seen.due ∙ sym w.held.ensures ∙ w.if-held-t.true))
-        (w.word.ensures ∙ ap (λ v. word c.loop-c.c c.args.t (signed v)) (w.held-then-held-t.ensures ∙ seen.value ∙ ap (λ m. get_or (pendings_of c.args.state.now).value m 0) writer)))
-    | then-n-lt32+else-held-t w ↦
-        let seen = node_seen c.args.plan.now c.args.state.now n w.if-n-lt32.true in
-        rw (w.words-is, w.count-is) (adds_none_due so.places (λ e. w.if-held-t.false (w.held.ensures ∙ seen.due ∙ rw writer e)))
-    | else-n-lt32 w ↦ rw (w.words-is, w.count-is) (adds_none_written so.places (rw writer at w.if-n-lt32.false))
+      | then-n-lt32+then-held-t w ↦
+          let seen = node_seen c.args.plan.now c.args.state.now n w.if-n-lt32.true in
+          rw (w.words-is, w.count-is)
+          (adds_word so.places below (rw writer at w.if-n-lt32.true) (rw writer at (sym seen.due ∙ sym w.held.ensures ∙ w.if-held-t.true))
+          (w.word.ensures ∙ ap (λ v. word c.loop-c.c c.args.t (signed v)) (w.held-then-held-t.ensures ∙ seen.value ∙ ap (λ m. get_or (pendings_of c.args.state.now).value m 0) writer)))
+      | then-n-lt32+else-held-t w ↦
+          let seen = node_seen c.args.plan.now c.args.state.now n w.if-n-lt32.true in
+          rw (w.words-is, w.count-is) (adds_none_due so.places (λ e. w.if-held-t.false (w.held.ensures ∙ seen.due ∙ rw writer e)))
+      | else-n-lt32 w ↦ rw (w.words-is, w.count-is) (adds_none_written so.places (rw writer at w.if-n-lt32.false))
     ] in
     rw (c.index-c-in-loop-c.ensures ∙ channel.outs) (gathered_turn c.requires.0 so h turn)

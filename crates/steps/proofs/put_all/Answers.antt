@@ -1,5 +1,5 @@
 -- A turn writes the value to channel c of the walk, and goes on to the next one.
-use Rattle.std.proofs.Common.{◌≡◌, ℕ, List, ◌<◌, min, get_or, refl, ◌∙◌, arith}
+use Rattle.std.proofs.Common.{ℕ, List, ◌<◌, min, get_or, refl, ◌∙◌, arith}
 use Rattle.layout.specs.Views.{channels_of, ways_of}
 use Rattle.layout.proofs.FieldLaws.{channel_seen}
 use Rattle.rings.specs.Access.{PutDone}

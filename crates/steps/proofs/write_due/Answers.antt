@@ -18,11 +18,11 @@ loop-pair-preserved c =
     let below : 2 * g < nodes_of c.args.plan.now = omega (arith, c.index-nodes.ensures) in
     let there : g < 16 = omega (arith, c.requires.0.few) in
     elim c.if-held-t.branch [
-      then-held-t w ↦ rw (w.state-is, w.full-is) (omega arith, pair_due g below on w.write_pair-full.ensures)
-    | else-held-t w ↦
-        let kept = soon_kept c.args.state.now c.loop-pair.state g there on.nodes in
-        rw (w.state-is, w.full-is)
-        (omega arith, pair_skip g (pair_not_due c.requires.1 c.requires.0.few c.requires.2 g (λ e. w.if-held-t.false (c.held.ensures ∙ kept ∙ e))) on)
+      | then-held-t w ↦ rw (w.state-is, w.full-is) (omega arith, pair_due g below on w.write_pair-full.ensures)
+      | else-held-t w ↦
+          let kept = soon_kept c.args.state.now c.loop-pair.state g there on.nodes in
+          rw (w.state-is, w.full-is)
+          (omega arith, pair_skip g (pair_not_due c.requires.1 c.requires.0.few c.requires.2 g (λ e. w.if-held-t.false (c.held.ensures ∙ kept ∙ e))) on)
     ]
 
 pub returns : goal.returns

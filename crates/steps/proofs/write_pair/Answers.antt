@@ -1,5 +1,5 @@
 -- A turn writes the results of node n, if it is due; a node that is not there never is.
-use Rattle.std.proofs.Common.{◌≡◌, ◌+◌, ◌*◌, ◌≤◌, sym, ◌∙◌, arith}
+use Rattle.std.proofs.Common.{◌≡◌, ◌+◌, ◌*◌, sym, ◌∙◌, arith}
 use Rattle.arrays.proofs.Kept.{node_kept}
 use Rattle.arrays.proofs.PairWrites.{due_there, on_due, on_skip}
 use Rattle.steps.proofs.write_pair.Goals.{then-held-t, else-held-t}
@@ -18,14 +18,14 @@ loop-n-preserved c =
     let n = c.loop-n.n in
     let seen = node_kept c.args.plan.now c.args.state.now c.loop-n.state n (omega (arith, c.requires.0.few, c.requires.3)) c.loop-n.invariant.1.nodes in
     elim c.if-held-t.branch [
-      then-held-t w ↦
-        let due = sym seen.due ∙ sym c.held.ensures ∙ w.if-held-t.true in
-        let there = due_there c.requires.1 c.requires.2 n (omega (arith, c.requires.0.few, c.requires.3)) due in
-        rw (w.state-is, w.full-is)
-        (omega arith, on_due n there due c.loop-n.invariant.1 (rw (w.index.ensures, seen.first, w.held-v.ensures, seen.value) at w.put_all-full.ensures))
-    | else-held-t w ↦
-        rw (w.state-is, w.full-is)
-        (omega arith, on_skip n (λ below e. w.if-held-t.false (c.held.ensures ∙ seen.due ∙ e)) c.loop-n.invariant.1)
+      | then-held-t w ↦
+          let due = sym seen.due ∙ sym c.held.ensures ∙ w.if-held-t.true in
+          let there = due_there c.requires.1 c.requires.2 n (omega (arith, c.requires.0.few, c.requires.3)) due in
+          rw (w.state-is, w.full-is)
+          (omega arith, on_due n there due c.loop-n.invariant.1 (rw (w.index.ensures, seen.first, w.held-v.ensures, seen.value) at w.put_all-full.ensures))
+      | else-held-t w ↦
+          rw (w.state-is, w.full-is)
+          (omega arith, on_skip n (λ below e. w.if-held-t.false (c.held.ensures ∙ seen.due ∙ e)) c.loop-n.invariant.1)
     ]
 
 pub returns : goal.returns
