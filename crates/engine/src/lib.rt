@@ -1,5 +1,7 @@
 // The second entry point: a run of a table from instant 0 to the horizon. From an instant the run goes straight to the next one at which
 // something happens.
+#![tactic(auto)]
+
 ghost use Rattle.std.specs.Prelude.{◌≡◌, cond, ◌-◌, ◌^◌, ◌≤◌, ◌<◌, ltb, length, get_or};
 ghost use Rattle.rules.specs.Lists.{lowest};
 ghost use Rattle.rules.specs.Instant.{time_in};
@@ -111,7 +113,8 @@ fn run_taken(network: Network, horizon: usize, arrivals: &[u64], list: &mut [u64
     requires { Lawful network }
     ensures { RunsRead network horizon arrivals.now list.old list.new result }
 {
-    if 16777215 < horizon {
+    let late = 16777215 < horizon;
+    if late {
         return Ran::Refused(Refusal::Horizon);
     }
     let mut plan = [0u32; PLAN];
