@@ -1,4 +1,6 @@
 // The rings of channels: a token written to one, and one taken from it.
+#![tactic(auto)]
+
 ghost use Rattle.std.specs.Prelude.{◌≡◌, ◌<◌, ◌≤◌, min, get_or};
 ghost use Rattle.layout.specs.Layout.{PLAN, STATE};
 ghost use Rattle.layout.specs.Views.{channels_of, shape_of, cells_of};

@@ -1,12 +1,12 @@
 -- The laws of serving ports: counts, a channel at a time, and that by the arrays of a network's fields the faulty nodes are those of the
 -- rules. Assumes nothing.
-use Prim.Native.Nat.{ℕ, zero, suc, ◌+◌, ◌≤◌, ◌<◌}
+use Prim.Native.Nat.{ℕ, ◌+◌, ◌≤◌, ◌<◌}
 use native.Mathlib.Nat.{add-zero}
 use native.Mathlib.Numerals.{add-one}
 use native.Mathlib.Omega.{arith}
-use mathlib.Core.Bool.{Bool, true, false, cond, not, ◌&&◌}
+use mathlib.Core.Bool.{Bool, true, false, cond, not}
 use mathlib.Core.List.{List}
-use mathlib.Core.Path.{◌≡◌, refl, sym, ◌∙◌, ap, ap₂}
+use mathlib.Core.Path.{◌≡◌, sym, ◌∙◌, ap}
 use lib.Dec.{eqb, ltb}
 use lib.ListN.{length, get_or}
 use borrow.Author.Tests.{eq-eqb, ne_eqb}
@@ -15,7 +15,7 @@ use Rattle.rules.specs.Kinds.{inputs}
 use Rattle.rules.specs.Network as rules
 use Rattle.rules.specs.Network.{node_of, channel_of, serves, ports_ok}
 use Rattle.rules.specs.Table.{faulty_node}
-use Rattle.rules.proofs.ListLaws.{and_both, get_d_tab, total_ext}
+use Rattle.rules.proofs.ListLaws.{and_both, get_d_tab}
 use Rattle.table.specs.Laid.{node_arrays, channel_arrays}
 use Rattle.table.specs.Reads.{served_by, served_right, faulty_in}
 use Rattle.rules.proofs.Agreeing.{count_ext, every_ext, lowest_ext}

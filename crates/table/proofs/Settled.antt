@@ -3,12 +3,13 @@
 use mathlib.Core.Path.{◌≡◌, refl, ◌∙⁻¹◌, Σ_path}
 use Rattle.rules.proofs.Settle.{Settled, same}
 use Rattle.rules.proofs.SaysOnce.{checked_says_once}
+use Rattle.table.specs.contracts as contracts
 use Rattle.table.proofs as calls
 
-pub check : Settled calls.check.ended calls.check.Reads.Learnt
+pub check : Settled contracts.check.ended calls.check.Reads.Learnt
 check κs args o p e f = Σ_path (same checked_says_once e f) refl
 
-pub unpack : Settled calls.unpack.ended calls.unpack.Reads.Learnt
+pub unpack : Settled contracts.unpack.ended calls.unpack.Reads.Learnt
 unpack κs args o p e f =
     let answer : o.0.answer ≡ p.0.answer = same checked_says_once e.answer f.answer in
     Σ_path (λ i. record { answer = answer i; network = (e.network ∙⁻¹ f.network) i }) refl

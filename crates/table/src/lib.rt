@@ -1,5 +1,7 @@
 // Reading a table: from lent bytes to a network, or the first rule that they break and where. The pieces are taken in the paper's order,
 // each read whole and then checked.
+#![tactic(auto)]
+
 ghost use Rattle.std.specs.Prelude.{◌≡◌, ℕ, ◌+◌, ◌*◌, ◌≤◌, ◌<◌, length, get_or};
 ghost use Rattle.rules.specs.Lists.{count, every, lowest};
 ghost use Rattle.rules.specs.Table.{read, header_at, ends_at, network};
@@ -178,7 +180,7 @@ fn read_channels(s: &[u8], nodes: usize, count: usize) -> Channels
     let mut reader = [0u32; 64];
     let mut port = [0u32; 64];
     let mut capacity = [0u32; 64];
-    let mut initial = [0u32; 64];
+    let mut initial_count = [0u32; 64];
     let mut tokens = [0u32; 1024];
     let mut at = 24 + 69 * nodes;
     let mut together = 0;
@@ -195,7 +197,7 @@ fn read_channels(s: &[u8], nodes: usize, count: usize) -> Channels
                         reader,
                         port,
                         capacity,
-                        initial,
+                        initial: initial_count,
                         tokens,
                     },
                 };
@@ -206,7 +208,7 @@ fn read_channels(s: &[u8], nodes: usize, count: usize) -> Channels
                 reader[c] = ch.reader;
                 port[c] = ch.port;
                 capacity[c] = ch.capacity;
-                initial[c] = ch.initial;
+                initial_count[c] = ch.initial;
                 at = at + 29 + 32 * fields::wide(ch.initial);
                 together = together + fields::wide(ch.capacity);
             }
@@ -221,7 +223,7 @@ fn read_channels(s: &[u8], nodes: usize, count: usize) -> Channels
             reader,
             port,
             capacity,
-            initial,
+            initial: initial_count,
             tokens,
         },
     }
