@@ -1,6 +1,6 @@
 -- The contracts of the two calls settle what the calls come to, for any arguments: the answer, every value written through a pointer, and the
 -- whole list at the exit are given. `Learnt` is what a caller learns from the contract in the source. Assumes nothing.
-use mathlib.Core.Path.{◌≡◌, ◌∙⁻¹◌, ap, Σ_path}
+use mathlib.Core.Path.{◌∙⁻¹◌, ap, Σ_path}
 use Rattle.rules.specs.Refusals.{CheckSays, RunSays}
 use Rattle.rules.proofs.Settle.{Settled}
 use Rattle.tunebobbin.specs.contracts as contracts
