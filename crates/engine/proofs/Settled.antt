@@ -3,9 +3,10 @@
 use mathlib.Core.Path.{◌∙⁻¹◌, ap, Σ_path}
 use Rattle.rules.proofs.Settle.{Settled, same}
 use Rattle.rules.proofs.SaysOnce.{ran_says_once}
+use Rattle.engine.specs.contracts as contracts
 use Rattle.engine.proofs as calls
 
 -- of the four parameters the last alone can be changed
-pub run : Settled calls.run.ended calls.run.Reads.Learnt
+pub run : Settled contracts.run.ended calls.run.Reads.Learnt
 run κs args o p e f =
     Σ_path (same ran_says_once e.answer f.answer) (ap (λ list. (tt, (tt, (tt, (list, tt))))) (e.list ∙⁻¹ f.list))

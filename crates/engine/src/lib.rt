@@ -111,7 +111,8 @@ fn run_taken(network: Network, horizon: usize, arrivals: &[u64], list: &mut [u64
     requires { Lawful network }
     ensures { RunsRead network horizon arrivals.now list.old list.new result }
 {
-    if 16777215 < horizon {
+    let late = 16777215 < horizon;
+    if late {
         return Ran::Refused(Refusal::Horizon);
     }
     let mut plan = [0u32; PLAN];

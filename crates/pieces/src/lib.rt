@@ -189,6 +189,7 @@ fn channel_at(s: &[u8], at: usize) -> Channel
 }
 
 // Channel `c`, which stands at bit `at` behind channels whose capacities together are `together`.
+#[tactic(auto, unfolding(rules::specs::Table::channel_piece))]
 pub fn channel_piece(s: &[u8], nodes: usize, c: usize, at: usize, together: usize) -> ChannelRead
     requires { (at < 65536) × (together ≤ 1024) }
     ensures { channel_says result ≡ channel_piece s.now nodes c at together }

@@ -1,4 +1,6 @@
 // The plan and the state of a run before its first instant, from a table that was read.
+#![tactic(auto)]
+
 ghost use Rattle.std.specs.Prelude.{◌≡◌, ℕ, ◌+◌, ◌≤◌, ◌<◌, length, get_or, replicate};
 ghost use Rattle.rules.specs.Lists.{total};
 ghost use Rattle.rules.specs.Network.{Network as Rules, Obeys};

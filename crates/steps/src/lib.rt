@@ -1,4 +1,6 @@
 // One instant of a run, in the steps of document 01's "One instant", a function for each, on the plan and the state that a run lends.
+#![tactic(auto)]
+
 ghost use Rattle.std.specs.Prelude.{◌≡◌, not, ◌++◌, ◌+◌, ◌*◌, ◌^◌, ◌≤◌, ◌<◌, min, eqb, length, get_or, take, drop};
 ghost use Rattle.layout.specs.Layout.{PLAN, STATE};
 ghost use Rattle.layout.specs.Views.{nodes_of, channels_of, shape_of, wires_of, ways_of, cells_of, pendings_of, soons_of, nodes_from};
