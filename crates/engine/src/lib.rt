@@ -1,5 +1,7 @@
 // The second entry point: a run of a table from instant 0 to the horizon. From an instant the run goes straight to the next one at which
 // something happens.
+#![tactic(auto)]
+
 ghost use Rattle.std.specs.Prelude.{◌≡◌, cond, ◌-◌, ◌^◌, ◌≤◌, ◌<◌, ltb, length, get_or};
 ghost use Rattle.rules.specs.Lists.{lowest};
 ghost use Rattle.rules.specs.Instant.{time_in};
