@@ -9,10 +9,11 @@ use borrow.Author.Tests.{ltb-true, ltb-false}
 use Rattle.rules.proofs.Settle.{Settled}
 use Rattle.rules.proofs.ListLaws.{by_test}
 use Rattle.listing.specs.Text.{size}
+use Rattle.listing.specs.contracts as contracts
 use Rattle.listing.proofs as calls
 
 -- of the two parameters the last alone can be changed
-pub listing : Settled calls.listing.ended calls.listing.Reads.Learnt
+pub listing : Settled contracts.listing.ended calls.listing.Reads.Learnt
 listing κs args o p e f =
     by_test (ltb (length args.1.0.now) size)
     (λ test.

@@ -1,4 +1,6 @@
 // The pole's listing: from the bytes of standard input to the bytes of the listing, in a lent buffer.
+#![tactic(auto)]
+
 ghost use Rattle.std.specs.Prelude.{◌≡◌, true, [], ◌∷◌, ◌++◌, ◌+◌, ◌-◌, ◌*◌, ◌/◌, ◌%◌, ◌≤◌, ◌<◌, length, take};
 ghost use Rattle.rules.specs.Lists.{tab};
 ghost use Rattle.rules.specs.Kinds.{signed};
@@ -10,6 +12,9 @@ use rules::{Ran, Refusal};
 
 // The longest listing: 2,048 lines of at most 25 bytes, and a last line of at most 64.
 pub const SIZE: usize = 51264;
+
+// The longest table that is well framed.
+const LONGEST_TABLE: usize = 8191;
 
 // ---- Text
 
@@ -198,7 +203,7 @@ fn is_framed(s: &[u8]) -> bool
         return false;
     }
     let table = fields::wide(fields::field(s, 0, 16));
-    if 8191 < table {
+    if LONGEST_TABLE < table {
         return false;
     }
     if s.len() < 5 + table {
