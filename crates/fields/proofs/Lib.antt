@@ -1,5 +1,4 @@
 pub mod Turn
 pub mod Signs
 pub mod Readers
-
 pub mod Settled

@@ -1,4 +1,5 @@
 // The types that code and definitions share. The rules themselves are in specs/, a file for each section of document 01.
+#![tactic(auto)]
 
 // A node, as its 69 bits have it.
 #[derive(Clone, Copy)]
