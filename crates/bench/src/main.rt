@@ -3,76 +3,94 @@
 // For each case it lends the run a list of so many entries, each 7, and writes a line for the answer, `end COUNT`,
 // `stop NUMBER INSTANT CHANNEL COUNT` or `refused NUMBER PLACE`, and then a line for each entry of the list. A case that does not hold its
 // fields, or with a room above 256 or more than 64 arrivals, is `badly framed`. Where a length runs past the end of the input it writes
-// `short` and ends.
-ghost use Rattle.std.specs.Prelude.{◌≡◌, ◌+◌, ◌*◌, ◌≤◌, ◌<◌, length};
+// `short` and ends. Where a read or a write fails it says so on standard error, and its status is 1.
+#![tactic(auto)]
 
-use libc::{STDIN_FILENO, STDOUT_FILENO};
+ghost use Rattle.std.specs.Prelude.{◌≡◌, ◌+◌, ◌*◌, ◌≤◌, ◌<◌, length, IfOk};
+ghost use Rattle.std.specs.Io.{ReadsAtMost};
+
 use rules::Ran;
+use std::io;
+use std::io::{Read, Write};
+
+// Reads until the buffer is full or the input ends, and answers how many bytes it put at the buffer's start.
+fn read_full(source: &mut impl Read, buf: &mut [u8]) -> io::Result<usize>
+    ensures { ReadsAtMost result buf.new }
+{
+    let mut done = 0;
+    while done < buf.len() {
+        let n = source.read(&mut buf[done..])?;
+        if n == 0 {
+            break;
+        }
+        done += n;
+    }
+    Ok(done)
+}
 
 // ---- The answer
 
 // A blank and a number.
-fn and(n: usize) {
-    io::write_all(STDOUT_FILENO, b" ");
-    io::print_decimal(STDOUT_FILENO, n as u64);
+fn and(out: &mut impl Write, n: usize) -> io::Result<()> {
+    write!(out, " {n}")
 }
 
-fn line_end() {
-    io::write_all(STDOUT_FILENO, b"\n");
+fn line_end(out: &mut impl Write) -> io::Result<()> {
+    out.write_all(b"\n")
 }
 
-fn say_end(count: usize) {
-    io::write_all(STDOUT_FILENO, b"end");
-    and(count);
-    line_end();
+fn say_end(out: &mut impl Write, count: usize) -> io::Result<()> {
+    out.write_all(b"end")?;
+    and(out, count)?;
+    line_end(out)
 }
 
-fn say_stop(number: usize, instant: usize, channel: usize, count: usize) {
-    io::write_all(STDOUT_FILENO, b"stop");
-    and(number);
-    and(instant);
-    and(channel);
-    and(count);
-    line_end();
+fn say_stop(
+    out: &mut impl Write,
+    number: usize,
+    instant: usize,
+    channel: usize,
+    count: usize,
+) -> io::Result<()> {
+    out.write_all(b"stop")?;
+    and(out, number)?;
+    and(out, instant)?;
+    and(out, channel)?;
+    and(out, count)?;
+    line_end(out)
 }
 
-fn say_refused(number: usize, place: usize) {
-    io::write_all(STDOUT_FILENO, b"refused");
-    and(number);
-    and(place);
-    line_end();
+fn say_refused(out: &mut impl Write, number: usize, place: usize) -> io::Result<()> {
+    out.write_all(b"refused")?;
+    and(out, number)?;
+    and(out, place)?;
+    line_end(out)
 }
 
 // The line of a run's answer.
-fn say(answer: Ran) {
+fn say(out: &mut impl Write, answer: Ran) -> io::Result<()> {
     match answer {
-        Ran::End { count } => {
-            say_end(count);
-        }
+        Ran::End { count } => say_end(out, count),
         Ran::Overfull {
             count,
             instant,
             channel,
-        } => {
-            say_stop(11, instant, channel, count);
-        }
-        Ran::NoRoom { count, instant } => {
-            say_stop(12, instant, 0, count);
-        }
-        Ran::Refused(why) => {
-            say_refused(pieces::number_of(why), pieces::place_of(why));
-        }
+        } => say_stop(out, 11, instant, channel, count),
+        Ran::NoRoom { count, instant } => say_stop(out, 12, instant, 0, count),
+        Ran::Refused(why) => say_refused(out, pieces::number_of(why), pieces::place_of(why)),
     }
 }
 
 // A line for each entry of the list.
-fn say_entries(list: &[u64]) {
+fn say_entries(out: &mut impl Write, list: &[u64]) -> io::Result<()> {
     let mut i = 0;
     while i < list.len() {
-        io::print_decimal(STDOUT_FILENO, list[i]);
-        line_end();
+        let entry = list[i];
+        write!(out, "{entry}")?;
+        line_end(out)?;
         i += 1;
     }
+    Ok(())
 }
 
 // ---- A case
@@ -98,41 +116,61 @@ fn take_arrivals(s: &[u8], arrivals: &mut [u64])
 }
 
 // Runs a table with these arrivals, and says what comes of it and what the list then holds.
-fn run_lent(table: &[u8], horizon: usize, arrivals: &[u64], list: &mut [u64]) {
-    say(engine::run(table, horizon, arrivals, list));
-    say_entries(list);
+fn run_lent(
+    out: &mut impl Write,
+    table: &[u8],
+    horizon: usize,
+    arrivals: &[u64],
+    list: &mut [u64],
+) -> io::Result<()> {
+    say(out, engine::run(table, horizon, arrivals, list))?;
+    say_entries(out, list)
 }
 
 // Runs a table with the arrivals in these bytes, which are first put into a list.
-fn run_arrived(table: &[u8], horizon: usize, bytes: &[u8], arrivals: &mut [u64], list: &mut [u64])
+fn run_arrived(
+    out: &mut impl Write,
+    table: &[u8],
+    horizon: usize,
+    bytes: &[u8],
+    arrivals: &mut [u64],
+    list: &mut [u64],
+) -> io::Result<()>
     requires { 8 * length arrivals.old ≤ length bytes.now }
 {
     take_arrivals(bytes, arrivals);
-    run_lent(table, horizon, arrivals, list);
+    run_lent(out, table, horizon, arrivals, list)
 }
 
 // Runs a table with the arrivals in these bytes and so much room for words.
-fn run_framed(table: &[u8], horizon: usize, bytes: &[u8], room: usize)
+fn run_framed(
+    out: &mut impl Write,
+    table: &[u8],
+    horizon: usize,
+    bytes: &[u8],
+    room: usize,
+) -> io::Result<()>
     requires { (length bytes.now ≤ 512) × (room ≤ 256) }
 {
     let many = bytes.len() / 8;
     let mut arrivals = [0u64; 64];
     let mut list = [7u64; 256];
     run_arrived(
+        out,
         table,
         horizon,
         bytes,
         &mut arrivals[..many],
         &mut list[..room],
-    );
+    )
 }
 
-fn say_badly_framed() {
-    io::write_all(STDOUT_FILENO, b"badly framed\n");
+fn say_badly_framed(out: &mut impl Write) -> io::Result<()> {
+    out.write_all(b"badly framed\n")
 }
 
 // Runs the case of these bytes, which starts with its three numbers.
-fn run_headed(s: &[u8])
+fn run_headed(out: &mut impl Write, s: &[u8]) -> io::Result<()>
     requires { 8 ≤ length s.now }
 {
     let room = fields::field(s, 0, 16) as usize;
@@ -144,31 +182,29 @@ fn run_headed(s: &[u8])
             let left = s.len() - end;
             if left <= 512 {
                 if left % 8 == 0 {
-                    run_framed(&s[8..end], horizon, &s[end..], room);
-                    return;
+                    return run_framed(out, &s[8..end], horizon, &s[end..], room);
                 }
             }
         }
     }
-    say_badly_framed();
+    say_badly_framed(out)
 }
 
-fn run_case(s: &[u8]) {
+fn run_case(out: &mut impl Write, s: &[u8]) -> io::Result<()> {
     if s.len() < 8 {
-        say_badly_framed();
-        return;
+        return say_badly_framed(out);
     }
-    run_headed(s);
+    run_headed(out, s)
 }
 
 // ---- The row of cases
 
 // Says that the input ends too soon, and answers its end.
-fn short(s: &[u8]) -> usize
-    ensures { result ≡ length s.now }
+fn short(out: &mut impl Write, s: &[u8]) -> io::Result<usize>
+    ensures { IfOk result (λ end. end ≡ length s.now) }
 {
-    io::write_all(STDOUT_FILENO, b"short\n");
-    s.len()
+    out.write_all(b"short\n")?;
+    Ok(s.len())
 }
 
 // The length that starts at byte `at`.
@@ -180,32 +216,33 @@ fn length_at(s: &[u8], at: usize) -> usize
 }
 
 // Runs the case whose length starts at byte `at`, and answers where the next one's does.
-fn run_at(s: &[u8], at: usize) -> usize
+fn run_at(out: &mut impl Write, s: &[u8], at: usize) -> io::Result<usize>
     requires { at < length s.now }
-    ensures { (at < result) × (result ≤ length s.now) }
+    ensures { IfOk result (λ next. (at < next) × (next ≤ length s.now)) }
 {
     if s.len() - at < 4 {
-        return short(s);
+        return short(out, s);
     }
     let start = at + 4;
     let bytes = length_at(s, at);
     if bytes <= s.len() - start {
         let end = start + bytes;
-        run_case(&s[start..end]);
-        return end;
+        run_case(out, &s[start..end])?;
+        return Ok(end);
     }
-    short(s)
+    short(out, s)
 }
 
-fn run_all(s: &[u8]) {
+fn run_all(out: &mut impl Write, s: &[u8]) -> io::Result<()> {
     let mut at = 0;
     while at < s.len() {
-        at = run_at(s, at);
+        at = run_at(out, s, at)?;
     }
+    Ok(())
 }
 
-fn main() {
+fn main(rt: HostRuntime) -> io::Result<()> {
     let mut input = [0u8; 65536];
-    let n = io::read_full(STDIN_FILENO, &mut input);
-    run_all(&input[..n]);
+    let n = read_full(&mut rt.stdin(), &mut input)?;
+    run_all(&mut rt.stdout(), &input[..n])
 }

@@ -5,4 +5,4 @@ use Rattle.pole.specs.declared.Input.{Input}
 -- where no read failed, at most n bytes came
 abbrev pub AtMost : Input → ℕ → Type 0
 AtMost (Input.Bytes k) n = k ≤ n
-AtMost Input.Failed n = Unit {0}
+AtMost (Input.Failed why) n = Unit {0}

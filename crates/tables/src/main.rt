@@ -1,39 +1,57 @@
 // Checks the tables on standard input, at most 262,144 bytes of them, each behind its length in 4 bytes, most significant first. Writes a
 // line for each: `taken NODES CHANNELS`, or `refused NUMBER PLACE`. Where a length runs past the end of the input it writes `short` and
-// ends.
-ghost use Rattle.std.specs.Prelude.{◌≡◌, ◌+◌, ◌≤◌, ◌<◌, length};
+// ends. Where a read or a write fails it says so on standard error, and its status is 1.
+#![tactic(auto)]
 
-use libc::{STDIN_FILENO, STDOUT_FILENO};
+ghost use Rattle.std.specs.Prelude.{◌≡◌, ◌+◌, ◌≤◌, ◌<◌, length, IfOk};
+ghost use Rattle.std.specs.Io.{ReadsAtMost};
+
 use rules::Checked;
+use std::io;
+use std::io::{Read, Write};
+
+// Reads until the buffer is full or the input ends, and answers how many bytes it put at the buffer's start.
+fn read_full(source: &mut impl Read, buf: &mut [u8]) -> io::Result<usize>
+    ensures { ReadsAtMost result buf.new }
+{
+    let mut done = 0;
+    while done < buf.len() {
+        let n = source.read(&mut buf[done..])?;
+        if n == 0 {
+            break;
+        }
+        done += n;
+    }
+    Ok(done)
+}
 
 // A line of a word, which ends in a blank, and two numbers.
-fn line(word: &[u8], a: usize, b: usize) {
-    io::write_all(STDOUT_FILENO, word);
-    io::print_decimal(STDOUT_FILENO, a as u64);
-    io::write_all(STDOUT_FILENO, &[b' ']);
-    io::print_decimal(STDOUT_FILENO, b as u64);
-    io::write_all(STDOUT_FILENO, &[b'\n']);
+fn line(out: &mut impl Write, word: &[u8], a: usize, b: usize) -> io::Result<()> {
+    out.write_all(word)?;
+    writeln!(out, "{a} {b}")
 }
 
 // The line of a check's answer.
-fn say(answer: Checked) {
+fn say(out: &mut impl Write, answer: Checked) -> io::Result<()> {
     match answer {
-        Checked::Taken { nodes, channels } => {
-            line(&[b't', b'a', b'k', b'e', b'n', b' '], nodes, channels);
-        }
+        Checked::Taken { nodes, channels } => line(out, b"taken ", nodes, channels),
         Checked::Refused(why) => {
-            let word = [b'r', b'e', b'f', b'u', b's', b'e', b'd', b' '];
-            line(&word, pieces::number_of(why), pieces::place_of(why));
+            line(
+                out,
+                b"refused ",
+                pieces::number_of(why),
+                pieces::place_of(why),
+            )
         }
     }
 }
 
 // Says that the input ends too soon, and answers its end.
-fn short(s: &[u8]) -> usize
-    ensures { result ≡ length s.now }
+fn short(out: &mut impl Write, s: &[u8]) -> io::Result<usize>
+    ensures { IfOk result (λ end. end ≡ length s.now) }
 {
-    io::write_all(STDOUT_FILENO, &[b's', b'h', b'o', b'r', b't', b'\n']);
-    s.len()
+    out.write_all(b"short\n")?;
+    Ok(s.len())
 }
 
 // The length that starts at byte `at`.
@@ -45,32 +63,33 @@ fn length_at(s: &[u8], at: usize) -> usize
 }
 
 // Checks the table whose length starts at byte `at`, and answers where the next one's does.
-fn check_at(s: &[u8], at: usize) -> usize
+fn check_at(out: &mut impl Write, s: &[u8], at: usize) -> io::Result<usize>
     requires { at < length s.now }
-    ensures { (at < result) × (result ≤ length s.now) }
+    ensures { IfOk result (λ next. (at < next) × (next ≤ length s.now)) }
 {
     if s.len() - at < 4 {
-        return short(s);
+        return short(out, s);
     }
     let start = at + 4;
     let bytes = length_at(s, at);
     if bytes <= s.len() - start {
         let end = start + bytes;
-        say(table::check(&s[start..end]));
-        return end;
+        say(out, table::check(&s[start..end]))?;
+        return Ok(end);
     }
-    short(s)
+    short(out, s)
 }
 
-fn check_all(s: &[u8]) {
+fn check_all(out: &mut impl Write, s: &[u8]) -> io::Result<()> {
     let mut at = 0;
     while at < s.len() {
-        at = check_at(s, at);
+        at = check_at(out, s, at)?;
     }
+    Ok(())
 }
 
-fn main() {
+fn main(rt: HostRuntime) -> io::Result<()> {
     let mut input = [0u8; 262144];
-    let n = io::read_full(STDIN_FILENO, &mut input);
-    check_all(&input[..n]);
+    let n = read_full(&mut rt.stdin(), &mut input)?;
+    check_all(&mut rt.stdout(), &input[..n])
 }

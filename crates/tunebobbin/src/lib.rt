@@ -1,5 +1,7 @@
 // The C interface: the two entry points under plain names, with the paper's number as the answer and each further value through a pointer.
 // include/tunebobbin.h is the same for a reader of C.
+#![tactic(auto)]
+
 ghost use Rattle.std.specs.Prelude.{◌≡◌, length};
 ghost use Rattle.rules.specs.Refusals.{check, run, run_says, list_after};
 
@@ -47,9 +49,9 @@ pub extern "C" fn tunebobbin_run(
     channel: &mut usize,
     count: &mut usize,
 ) -> usize
-    ensures count_after { record { number = result; place = place.new; channel = channel.new; count = count.new }
+    ensures answer { record { number = result; place = place.new; channel = channel.new; count = count.new }
         ≡ run_says (run table.now horizon arrivals.now (length list.old)) }
-    ensures list_after { list.new ≡ list_after (run table.now horizon arrivals.now (length list.old)) list.old }
+    ensures list { list.new ≡ list_after (run table.now horizon arrivals.now (length list.old)) list.old }
 {
     let answer = engine::run(table, horizon, arrivals, list);
     match answer {
