@@ -108,7 +108,9 @@ fn run_prepared(
     Ran::End { count }
 }
 
-// Runs a network that was read: the horizon and the arrivals are checked first.
+// Runs a network that was read: the horizon and the arrivals are checked first. The hint keeps the stack that a run takes within the header's
+// figure.
+#[inline(never)]
 fn run_taken(network: Network, horizon: usize, arrivals: &[u64], list: &mut [u64]) -> Ran
     requires { Lawful network }
     ensures { RunsRead network horizon arrivals.now list.old list.new result }

@@ -316,6 +316,8 @@ fn faulty_node(
 
 // ---- The whole table
 
+// The hints on inlining from here on keep the stack that a call takes within the header's figures, which `tools/c-example` measures.
+
 // A refusal, with a network that is all zero.
 fn refused(why: Refusal) -> Table
     ensures { result ≡ refused_table why }
@@ -345,6 +347,7 @@ fn refused(why: Refusal) -> Table
 }
 
 // The end of the table and the ports, once all pieces are read.
+#[inline(always)]
 fn read_end(
     s: &[u8],
     nodes: usize,
@@ -378,6 +381,7 @@ fn read_end(
 }
 
 // The channels, and what follows them, once the nodes are read.
+#[inline(always)]
 fn read_rest(s: &[u8], nodes: usize, channels: usize, node: NodeArrays) -> Table
     requires { (header_at s.now ≡ read (record { nodes = nodes; channels = channels })) × NodesDone s.now nodes node }
     ensures { TableOf (network s.now) result }
@@ -394,6 +398,7 @@ fn read_rest(s: &[u8], nodes: usize, channels: usize, node: NodeArrays) -> Table
 }
 
 // The network that a table's bytes say, or the first refusal.
+#[inline(always)]
 pub fn unpack(s: &[u8]) -> Table
     ensures { TableOf (network s.now) result }
 {
