@@ -1,5 +1,5 @@
--- A reader's type, its fields and their laws, at the lifetime of a signature that has one, for the walks of the functions over readers; and that
--- what a reader owns may be had twice. Assumes nothing.
+-- A reader's type, its fields and their laws, at the lifetime of a signature that has one; and that what a reader owns may be had twice.
+-- Assumes nothing.
 use mathlib.Core.List.{[], ◌∷◌}
 use seplogic.Ra.Ura.{Ura}
 use mir.Val.{Val}

@@ -48,8 +48,8 @@ place_of κs args o p e f = Σ_path (e ∙⁻¹ f) refl
 pub read_header : Settled contracts.read_header.ended calls.read_header.Reads.Learnt
 read_header κs args o p e f = Σ_path (same header_says_once e f) refl
 
-pub node_piece_law : Settled contracts.node_piece.ended calls.node_piece.Reads.Learnt
-node_piece_law κs args o p e f = Σ_path (same node_says_once e f) refl
+pub node_piece : Settled contracts.node_piece.ended calls.node_piece.Reads.Learnt
+node_piece κs args o p e f = Σ_path (same node_says_once e f) refl
 
-pub channel_piece_law : Settled contracts.channel_piece.ended calls.channel_piece.Reads.Learnt
-channel_piece_law κs args o p e f = Σ_path (same channel_says_once e f) refl
+pub channel_piece : Settled contracts.channel_piece.ended calls.channel_piece.Reads.Learnt
+channel_piece κs args o p e f = Σ_path (same channel_says_once e f) refl

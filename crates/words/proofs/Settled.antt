@@ -5,11 +5,11 @@ use Rattle.rules.proofs.Settle.{Settled}
 use Rattle.words.specs.contracts as contracts
 use Rattle.words.proofs as calls
 
-pub channel_in_law : Settled contracts.channel_in.ended calls.channel_in.Reads.Learnt
-channel_in_law κs args o p e f = Σ_path (e ∙⁻¹ f) refl
+pub channel_in : Settled contracts.channel_in.ended calls.channel_in.Reads.Learnt
+channel_in κs args o p e f = Σ_path (e ∙⁻¹ f) refl
 
-pub time_in_law : Settled contracts.time_in.ended calls.time_in.Reads.Learnt
-time_in_law κs args o p e f = Σ_path (e ∙⁻¹ f) refl
+pub time_in : Settled contracts.time_in.ended calls.time_in.Reads.Learnt
+time_in κs args o p e f = Σ_path (e ∙⁻¹ f) refl
 
 pub value_in : Settled contracts.value_in.ended calls.value_in.Reads.Learnt
 value_in κs args o p e f = Σ_path (e ∙⁻¹ f) refl
