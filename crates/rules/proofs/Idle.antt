@@ -16,7 +16,7 @@ use Rattle.rules.specs.Lists.{tab_from, tab, joined, lowest}
 use Rattle.rules.specs.Network.{Network, Obeys, channel_of, is_register, is_out}
 use Rattle.rules.specs.Instant.{time_in, Waiting, State, waiting_of, held_in, is_due, due_now, arriving, written, keeping, after_writes, overfull, out_words, goes_ahead, waiting_after, held_after, after_reads, goes, judged, instant, running, onward, reached}
 use Rattle.rules.proofs.Arrivals.{nothing_arrives}
-use Rattle.rules.proofs.ListLaws.{tab_get_d, by_test, lowest_none}
+use Rattle.rules.proofs.ListLaws.{tab_get_or, by_test, lowest_none}
 use Rattle.rules.proofs.LongerLists.{last_of_one}
 use Rattle.rules.proofs.Sound.{Sound, Idle}
 use Rattle.rules.proofs.Reach.{sound}
@@ -52,7 +52,7 @@ module _ (net : Network) (arrivals : List ℕ) (t : ℕ) (st : State) (well : So
   nothing_held_anew : after_writes net arrivals t st ≡ st.held
   unfolding after_writes
   nothing_held_anew =
-      tab_get_d st.held (length net.channels) _ [] well.channels
+      tab_get_or st.held (length net.channels) _ [] well.channels
       (λ c below.
       rw (nothing_written c)
       (keeping_none (channel_of net c) (held_in st.held c) (well.out c below) (well.register c below)))
@@ -85,10 +85,10 @@ module _ (net : Network) (arrivals : List ℕ) (t : ℕ) (st : State) (well : So
       (by_test (is_register (channel_of net c)) (λ e. rw e) (λ e. rw e))
 
   all_wait_on : tab (length net.nodes) (waiting_after net st.held t st) ≡ st.waiting
-  all_wait_on = tab_get_d st.waiting (length net.nodes) _ none well.nodes (λ n below. waits_on n)
+  all_wait_on = tab_get_or st.waiting (length net.nodes) _ none well.nodes (λ n below. waits_on n)
 
   all_hold_on : tab (length net.channels) (held_after net st.held t) ≡ st.held
-  all_hold_on = tab_get_d st.held (length net.channels) _ [] well.channels (λ c below. holds_on c)
+  all_hold_on = tab_get_or st.held (length net.channels) _ [] well.channels (λ c below. holds_on c)
 
   nothing_read : after_reads net st.held t st ≡ st
   unfolding after_reads

@@ -12,7 +12,7 @@ use borrow.Author.Tests.{ltb-true, ltb-false}
 use Rattle.rules.specs.Lists.{lowest}
 use Rattle.rules.specs.Network.{Network, channel_of}
 use Rattle.rules.specs.Instant.{State, waiting_of, held_in, written, keeping, waiting_after, held_after, Step, stops, goes, after_writes, overfull, out_words, after_reads, judged, instant, Reached, running, halted, stepped, onward, reached}
-use Rattle.rules.proofs.ListLaws.{length_tab, get_d_tab, by_test, lowest_is}
+use Rattle.rules.proofs.ListLaws.{length_tab, get_or_tab, by_test, lowest_is}
 
 -- the state after the writes and after the reads, entry by entry
 module _ (net : Network) (arrivals : List ℕ) (t : ℕ) (st : State) where
@@ -25,7 +25,7 @@ module _ (net : Network) (arrivals : List ℕ) (t : ℕ) (st : State) where
       → held_in (after_writes net arrivals t st) c ≡ keeping (channel_of net c) (held_in st.held c) (written net arrivals t st c)
   unfolding after_writes
   writes_at c below =
-      get_d_tab (length net.channels) (λ d. keeping (channel_of net d) (held_in st.held d) (written net arrivals t st d)) c [] below
+      get_or_tab (length net.channels) (λ d. keeping (channel_of net d) (held_in st.held d) (written net arrivals t st d)) c [] below
 
 module _ (net : Network) (held : List (List ℤ)) (t : ℕ) (st : State) where
   pub length_waiting : length (after_reads net held t st).waiting ≡ length net.nodes
@@ -34,7 +34,7 @@ module _ (net : Network) (held : List (List ℤ)) (t : ℕ) (st : State) where
 
   pub waiting_at_law : (n : ℕ) → n < length net.nodes → waiting_of (after_reads net held t st) n ≡ waiting_after net held t st n
   unfolding after_reads
-  waiting_at_law n below = get_d_tab (length net.nodes) (waiting_after net held t st) n none below
+  waiting_at_law n below = get_or_tab (length net.nodes) (waiting_after net held t st) n none below
 
   pub length_held : length (after_reads net held t st).held ≡ length net.channels
   unfolding after_reads
@@ -42,7 +42,7 @@ module _ (net : Network) (held : List (List ℤ)) (t : ℕ) (st : State) where
 
   pub held_at_law : (c : ℕ) → c < length net.channels → held_in (after_reads net held t st).held c ≡ held_after net held t c
   unfolding after_reads
-  held_at_law c below = get_d_tab (length net.channels) (held_after net held t) c [] below
+  held_at_law c below = get_or_tab (length net.channels) (held_after net held t) c [] below
 
 -- what instant t comes to: a channel is overfull, or the words do not fit, or neither, and it goes on with the words to the next state
 pub data Comes (net : Network) (arrivals : List ℕ) (room t : ℕ) (st : State) : Step → Type 0 where

@@ -29,19 +29,19 @@ module _ {A : Type 0} where
   length_tab_from f i zero = refl
   length_tab_from f i (suc n) = ap suc (length_tab_from f (suc i) n)
 
-  get_d_tab_from : (f : ℕ → A) (i n k : ℕ) (d : A) → k < n → get_or (tab_from f i n) k d ≡ f (i + k)
+  get_or_tab_from : (f : ℕ → A) (i n k : ℕ) (d : A) → k < n → get_or (tab_from f i n) k d ≡ f (i + k)
   unfolding tab_from
-  get_d_tab_from f i zero k d h = absurd (not-suc-le-zero h)
-  get_d_tab_from f i (suc n) zero d h = ap f (sym (add-zero i))
-  get_d_tab_from f i (suc n) (suc k) d h = get_d_tab_from f (suc i) n k d (le_of_suc-le-suc h) ∙ ap f (suc-add i k ∙ sym (add-suc i k))
+  get_or_tab_from f i zero k d h = absurd (not-suc-le-zero h)
+  get_or_tab_from f i (suc n) zero d h = ap f (sym (add-zero i))
+  get_or_tab_from f i (suc n) (suc k) d h = get_or_tab_from f (suc i) n k d (le_of_suc-le-suc h) ∙ ap f (suc-add i k ∙ sym (add-suc i k))
 
   pub length_tab : (n : ℕ) (f : ℕ → A) → length (tab n f) ≡ n
   unfolding tab
   length_tab n f = length_tab_from f 0 n
 
-  pub get_d_tab : (n : ℕ) (f : ℕ → A) (i : ℕ) (d : A) → i < n → get_or (tab n f) i d ≡ f i
+  pub get_or_tab : (n : ℕ) (f : ℕ → A) (i : ℕ) (d : A) → i < n → get_or (tab n f) i d ≡ f i
   unfolding tab
-  get_d_tab n f i d h = get_d_tab_from f 0 n i d h ∙ ap f (zero-add i)
+  get_or_tab n f i d h = get_or_tab_from f 0 n i d h ∙ ap f (zero-add i)
 
   -- lists made by index are equal where their entries are
   pub tab_ext : (n : ℕ) (f g : ℕ → A) (d : A) → ((i : ℕ) → i < n → f i ≡ g i) → tab n f ≡ tab n g
@@ -49,15 +49,15 @@ module _ {A : Type 0} where
       ext_get_or d (tab n f) (tab n g) (length_tab n f ∙ sym (length_tab n g))
       (λ i h.
       let below : i < n = rw length_tab at h in
-      get_d_tab n f i d below ∙ same i below ∙ sym (get_d_tab n g i d below))
+      get_or_tab n f i d below ∙ same i below ∙ sym (get_or_tab n g i d below))
 
   -- a list is made by index of its own entries
-  pub tab_get_d : (l : List A) (n : ℕ) (f : ℕ → A) (d : A) → length l ≡ n → ((i : ℕ) → i < n → f i ≡ get_or l i d) → tab n f ≡ l
-  tab_get_d l n f d len same =
+  pub tab_get_or : (l : List A) (n : ℕ) (f : ℕ → A) (d : A) → length l ≡ n → ((i : ℕ) → i < n → f i ≡ get_or l i d) → tab n f ≡ l
+  tab_get_or l n f d len same =
       ext_get_or d (tab n f) l (length_tab n f ∙ sym len)
       (λ i h.
       let below : i < n = rw length_tab at h in
-      get_d_tab n f i d below ∙ same i below)
+      get_or_tab n f i d below ∙ same i below)
 
 -- by the two outcomes of a test
 pub by_test : {P : Type 0} (b : Bool) → (b ≡ true → P) → (b ≡ false → P) → P

@@ -10,7 +10,7 @@ use Rattle.rules.specs.Network.{Network, Obeys, node_of, channel_of}
 use Rattle.rules.specs.Instant.{Waiting, State, waiting_of, held_in, at_start, due_now, arriving, written, after_writes, overfull, goes_ahead, held_after, after_reads, running, reached}
 use Rattle.rules.proofs.Checks.{fields_of}
 use Rattle.rules.proofs.InstantLaws.{length_writes, writes_at, length_waiting, waiting_at_law, length_held, held_at_law, Came, reached_came}
-use Rattle.rules.proofs.ListLaws.{length_tab, get_d_tab}
+use Rattle.rules.proofs.ListLaws.{length_tab, get_or_tab}
 use Rattle.rules.proofs.LongerLists.{at_any}
 use Rattle.rules.proofs.Sound.{Sound}
 use Rattle.rules.proofs.TokenLaws.{AllFit, none_fit, append_fit, arriving_fit, Holds, initial_holds, writes_hold, reads_hold}
@@ -38,7 +38,7 @@ pub start_sound : (net : Network) → Obeys net → Sound net 0 (at_start net)
 unfolding at_start
 start_sound net obeys =
     sound_by net 0 (at_start net) (length_tab (length net.nodes) (λ n. none)) obeys.held
-    (λ n below. rw (get_d_tab {A = Option Waiting} (length net.nodes) (λ m. none) n none below) tt)
+    (λ n below. rw (get_or_tab {A = Option Waiting} (length net.nodes) (λ m. none) n none below) tt)
     (λ c below.
     initial_holds (channel_of net c) (held_in net.tokens c) (fields_of net obeys c below) (obeys.initially c below)
     (record { at = obeys.token_fits c }))

@@ -14,7 +14,7 @@ use Rattle.rules.specs.Network.{Network, Obeys, node_of, channel_of, node_ok}
 use Rattle.rules.specs.Table.{read}
 use Rattle.rules.proofs.Checks.{node_fields_law, few_nodes, few_channels}
 use Rattle.rules.proofs.KindLaws.{signed_pattern}
-use Rattle.rules.proofs.ListLaws.{get_d_tab, length_tab}
+use Rattle.rules.proofs.ListLaws.{get_or_tab, length_tab}
 use Rattle.table.specs.declared.Network as table
 use Rattle.table.specs.Laid.{laid, node_arrays, channel_arrays, all_places, padded}
 
@@ -57,10 +57,10 @@ pub record Entries (net : Network) (a : table.Network) : Type 0 where
 
 module _ (net : Network) (obeys : Obeys net) where
   node_entry : (f : Node → ℕ) (n : ℕ) → n < length net.nodes → get_or (tab 32 (λ m. f (node_of net m))) n 0 ≡ f (node_of net n)
-  node_entry f n h = get_d_tab 32 (λ m. f (node_of net m)) n 0 (omega (arith, few_nodes net obeys))
+  node_entry f n h = get_or_tab 32 (λ m. f (node_of net m)) n 0 (omega (arith, few_nodes net obeys))
 
   channel_entry : (f : Channel → ℕ) (c : ℕ) → c < length net.channels → get_or (tab 64 (λ d. f (channel_of net d))) c 0 ≡ f (channel_of net c)
-  channel_entry f c h = get_d_tab 64 (λ d. f (channel_of net d)) c 0 (omega (arith, few_channels net obeys))
+  channel_entry f c h = get_or_tab 64 (λ d. f (channel_of net d)) c 0 (omega (arith, few_channels net obeys))
 
   pub laid_entries : Entries net (laid (read net))
   unfolding laid node_arrays channel_arrays

@@ -11,7 +11,7 @@ use Rattle.rules.specs.Kinds.{signed, pattern}
 use Rattle.rules.specs.Network.{Network, Obeys, node_of, capacities}
 use Rattle.rules.specs.Instant.{at_start, held_in, waiting_of}
 use Rattle.rules.proofs.Checks.{few_nodes, few_channels, fields_of}
-use Rattle.rules.proofs.ListLaws.{get_d_tab}
+use Rattle.rules.proofs.ListLaws.{get_or_tab}
 use Rattle.table.specs.declared.Network as table
 use Rattle.table.specs.Laid.{all_places, padded}
 use Rattle.layout.specs.Views.{Shape, Cells, Pendings, shape, cells, pendings}
@@ -33,7 +33,7 @@ module _ (net : Network) (obeys : Obeys net) (next value : List ℕ) (releases :
   unfolding at_start
   starts_waiting n h =
       let due : get_or (replicate 32 never) n 0 ≡ never = get_or-replicate 32 n never 0 (omega (arith, few_nodes net obeys)) in
-      rw due (get_d_tab (length net.nodes) (λ m. none) n none h)
+      rw due (get_or_tab (length net.nodes) (λ m. none) n none h)
 
   starts_next : (n : ℕ) → n < length net.nodes → NextRelease (node_of net n) 0 (get_or next n 0)
   starts_next n h =

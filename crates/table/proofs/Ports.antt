@@ -15,7 +15,7 @@ use Rattle.rules.specs.Kinds.{inputs}
 use Rattle.rules.specs.Network as rules
 use Rattle.rules.specs.Network.{node_of, channel_of, serves, ports_ok}
 use Rattle.rules.specs.Table.{faulty_node}
-use Rattle.rules.proofs.ListLaws.{and_both, get_d_tab}
+use Rattle.rules.proofs.ListLaws.{and_both, get_or_tab}
 use Rattle.table.specs.Laid.{node_arrays, channel_arrays}
 use Rattle.table.specs.Reads.{served_by, served_right, faulty_in}
 use Rattle.rules.proofs.Agreeing.{count_ext, every_ext, lowest_ext}
@@ -44,7 +44,7 @@ faulty_by_law kind reader port channels n h e = rw (e, h)
 served_by_law : (net : rules.Network) (n p c : ℕ) → c < 64 → served_by (channel_arrays net.channels net.tokens).reader (channel_arrays net.channels net.tokens).port n p c ≡ serves net n p c
 unfolding channel_arrays
 served_by_law net n p c h =
-    rw (get_d_tab 64 (λ d. (channel_of net d).reader) c 0 h, get_d_tab 64 (λ d. (channel_of net d).port) c 0 h)
+    rw (get_or_tab 64 (λ d. (channel_of net d).reader) c 0 h, get_or_tab 64 (λ d. (channel_of net d).port) c 0 h)
 
 -- by the arrays of a network's fields the faulty nodes are those of the rules
 pub faulty_in_law : (net : rules.Network) (n : ℕ) → n < length net.nodes → length net.nodes ≤ 32 → length net.channels ≤ 64 → faulty_in (node_arrays net.nodes).kind (channel_arrays net.channels net.tokens).reader (channel_arrays net.channels net.tokens).port (length net.channels) n ≡ not (ports_ok net n)
@@ -52,7 +52,7 @@ unfolding node_arrays ports_ok
 faulty_in_law net n h nodes channels =
     let place : n < 32 = omega arith in
     let right : ℕ → ℕ → Bool = λ p found. eqb found (cond (ltb p (inputs (node_of net n).kind)) 1 0) in
-    rw (get_d_tab 32 (λ m. (node_of net m).kind) n 0 place)
+    rw (get_or_tab 32 (λ m. (node_of net m).kind) n 0 place)
     (ap not
     (every_ext 4 _ _
     (λ p port. ap (right p) (count_ext (length net.channels) _ _ (λ c below. served_by_law net n p c (omega arith))))))

@@ -15,7 +15,7 @@ use Rattle.rules.specs.Network as rules
 use Rattle.rules.specs.Network.{node_among, counts_ok}
 use Rattle.rules.specs.Table.{read, ◌then◌, unless, header_at, ends_at, faulty_node, network}
 use Rattle.rules.proofs.Checks.{counts_within, node_fields_law}
-use Rattle.rules.proofs.ListLaws.{get_d_tab}
+use Rattle.rules.proofs.ListLaws.{get_or_tab}
 use Rattle.rules.proofs.Pieces.{header_read, nodes_read, nodes_count, channels_count}
 use Rattle.pieces.specs.declared.HeaderRead.{HeaderRead}
 use Rattle.table.specs.declared.Progress.{Progress}
@@ -70,7 +70,7 @@ module _ (s : List ℕ) {nodes channels : ℕ} (header : header_at s ≡ read (r
         let kind = (node_among front.nodes n).kind in
         let known : kind < 12 = (node_fields_law (node_among front.nodes n) (got.each n (omega (arith, got.count))).lawful).kind in
         let place : n < 32 = omega (arith, nodes_within) in
-        rw (front.laid, get_d_tab 32 (λ i. (node_among front.nodes i).kind) n 0 place) known
+        rw (front.laid, get_or_tab 32 (λ i. (node_among front.nodes i).kind) n 0 place) known
 
     module _ {end : ℕ} {channel : ChannelArrays} (back : ChannelsDone s nodes channels end channel) where
       -- the network of the lists that were read

@@ -27,7 +27,7 @@ enum Behind {
 }
 
 // The nodes' fields, zero behind the last node. Constants are the 32 bits that they were read from.
-#[derive(Drop)]
+#[derive(Clone, Copy)]
 pub struct NodeArrays {
     pub kind: [u32; 32],
     pub period: [u32; 32],
@@ -37,7 +37,7 @@ pub struct NodeArrays {
 
 // The channels' fields, zero behind the last channel. Each channel has as many places among the tokens as its capacity, one channel after
 // another: its initial tokens as the 32 bits that they were read from, then zeros; and zeros behind the last channel.
-#[derive(Drop)]
+#[derive(Clone, Copy)]
 pub struct ChannelArrays {
     pub sort: [u32; 64],
     pub writer: [u32; 64],
@@ -49,7 +49,7 @@ pub struct ChannelArrays {
 }
 
 // A network, a field an array.
-#[derive(Drop)]
+#[derive(Clone, Copy)]
 pub struct Network {
     pub nodes: usize,
     pub channels: usize,
@@ -58,21 +58,21 @@ pub struct Network {
 }
 
 // What a table comes to: the check's answer, and the network, all zero on a refusal.
-#[derive(Drop)]
+#[derive(Clone, Copy)]
 pub struct Table {
     pub answer: Checked,
     pub network: Network,
 }
 
 // The nodes that were read so far.
-#[derive(Drop)]
+#[derive(Clone, Copy)]
 struct Nodes {
     progress: Progress,
     arrays: NodeArrays,
 }
 
 // The channels that were read so far.
-#[derive(Drop)]
+#[derive(Clone, Copy)]
 struct Channels {
     behind: Behind,
     arrays: ChannelArrays,

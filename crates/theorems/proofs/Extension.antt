@@ -8,7 +8,7 @@ use lib.ListN.{length}
 use Rattle.rules.specs.Network.{Network, Obeys}
 use Rattle.rules.specs.Instant.{Waiting, State, at_start, written, Reached, running, halted, reached, adds, history}
 use Rattle.rules.proofs.InstantLaws.{Came, reached_came}
-use Rattle.rules.proofs.ListLaws.{get_d_tab, true_or_false}
+use Rattle.rules.proofs.ListLaws.{get_or_tab, true_or_false}
 use Rattle.rules.proofs.Reach.{sound}
 use Rattle.theorems.specs.Demand.{Extends, Agree, Runs, on, Stopped, short}
 use Rattle.theorems.proofs.Inside.{inside}
@@ -21,8 +21,8 @@ start_part A B extends =
     record {
       waiting = λ n node.
           let farther : n < length B.nodes = omega (arith, extends.more_nodes) in
-          get_d_tab {A = Option Waiting} (length B.nodes) (λ m. none) n none farther
-          ∙ sym (get_d_tab {A = Option Waiting} (length A.nodes) (λ m. none) n none node);
+          get_or_tab {A = Option Waiting} (length B.nodes) (λ m. none) n none farther
+          ∙ sym (get_or_tab {A = Option Waiting} (length A.nodes) (λ m. none) n none node);
       held = extends.same_tokens;
     }
 

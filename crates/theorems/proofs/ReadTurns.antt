@@ -13,7 +13,7 @@ use borrow.Author.Tests.{eqb-true, eq-eqb, le-ltb}
 use Rattle.rules.specs.Network.{Network, Obeys, node_of, channel_of, is_register, outside}
 use Rattle.rules.specs.Instant.{State, waiting_of, held_in, is_due, ready, result_of, wait_for, goes_ahead, waiting_after, held_after, after_reads}
 use Rattle.rules.proofs.Checks.{few_nodes, fields_of, end_node}
-use Rattle.rules.proofs.ListLaws.{by_test, length_tab, get_d_tab, tab_get_d}
+use Rattle.rules.proofs.ListLaws.{by_test, length_tab, get_or_tab, tab_get_or}
 use Rattle.theorems.specs.Turns.{Turn, reading, in_turn, read_all, Orders, Fair}
 use Rattle.theorems.proofs.Cells.{Sized, Sizes, Cell, unchanged, sized_after, cell_updated}
 use Rattle.theorems.proofs.Locality.{locality}
@@ -34,14 +34,14 @@ module _ (net : Network) (t : ℕ) where
       ≡ cond (eqb m n && goes_ahead net now.held t n)
       (wait_for (t + (node_of net n).deadline) (result_of net now.held n)) (get_or now.waiting m none)
   unfolding reading goes_ahead
-  reading_waiting now n m below = get_d_tab (length net.nodes) _ m none below
+  reading_waiting now n m below = get_or_tab (length net.nodes) _ m none below
 
   reading_held : (now : Turn) (n c : ℕ) → c < length net.channels
       → held_in (reading net t now n).held c
       ≡ cond (eqb (channel_of net c).reader n && not (is_register (channel_of net c)) && goes_ahead net now.held t n)
       (drop 1 (held_in now.held c)) (held_in now.held c)
   unfolding reading goes_ahead
-  reading_held now n c below = get_d_tab (length net.channels) _ c [] below
+  reading_held now n c below = get_or_tab (length net.channels) _ c [] below
 
   -- another's turn leaves what a reader finds
   held_kept : (now : Turn) (n c : ℕ) → c < length net.channels → eqb (channel_of net c).reader n ≡ false
@@ -131,6 +131,6 @@ module _ (net : Network) (t : ℕ) (st : State) (orders : Orders) (now : Turn) (
   reads_done =
       let after = in_turn (reading net t) now orders.reads in
       rw (
-        tab_get_d after.waiting (length net.nodes) (waiting_after net now.held t st) none reads_sized.nodes (λ n h. sym (reads_waiting n h)),
-        tab_get_d after.held (length net.channels) (held_after net now.held t) [] reads_sized.channels (λ c h. sym (reads_held c h)),
+        tab_get_or after.waiting (length net.nodes) (waiting_after net now.held t st) none reads_sized.nodes (λ n h. sym (reads_waiting n h)),
+        tab_get_or after.held (length net.channels) (held_after net now.held t) [] reads_sized.channels (λ c h. sym (reads_held c h)),
       )

@@ -7,7 +7,7 @@ use lib.ListN.{get_or}
 use Rattle.rules.specs.Lists.{tab}
 use Rattle.rules.specs.Network.{Network}
 use Rattle.rules.specs.Instant.{at_start, Reached, running, Written}
-use Rattle.rules.proofs.ListLaws.{get_d_tab, tab_ext}
+use Rattle.rules.proofs.ListLaws.{get_or_tab, tab_ext}
 use Rattle.theorems.specs.Turns.{Orders, onward_in_turn, reached_in_turn, adds_in_turn, history_in_turn}
 
 pub record Told : Type 0 where
@@ -40,4 +40,4 @@ module _ (net : Network) (arrivals : List ℕ) (orders : ℕ → Orders) (room f
   told_written (suc t) =
       rw (told_come t, told_written t)
       (tab_ext first _ _ []
-      (λ c below. rw (get_d_tab first (λ d. history_in_turn net arrivals orders room d t) c [] below)))
+      (λ c below. rw (get_or_tab first (λ d. history_in_turn net arrivals orders room d t) c [] below)))

@@ -13,7 +13,7 @@ use Rattle.rules.specs.Network.{Network, Obeys, end_ok, channel_of, outside}
 use Rattle.rules.specs.Instant.{State, waiting_of, held_in, is_due, keeping, written, after_writes}
 use Rattle.rules.proofs.Arrivals.{Faultless}
 use Rattle.rules.proofs.Checks.{fields_of, end_node}
-use Rattle.rules.proofs.ListLaws.{by_test, length_tab, get_d_tab, tab_get_d}
+use Rattle.rules.proofs.ListLaws.{by_test, length_tab, get_or_tab, tab_get_or}
 use Rattle.rules.proofs.Sound.{Sound}
 use Rattle.theorems.specs.Turns.{times, Turn, wrote_to, begin, brings, write, write_all, Orders, Fair}
 use Rattle.theorems.proofs.Brought.{brings_written}
@@ -29,20 +29,20 @@ module _ (net : Network) (arrivals : List ℕ) (t : ℕ) where
       → get_or (write net arrivals t now n).waiting m none
       ≡ cond (eqb m n && is_due (get_or now.waiting m none) t) none (get_or now.waiting m none)
   unfolding write
-  write_waiting now n m below = get_d_tab (length net.nodes) _ m none below
+  write_waiting now n m below = get_or_tab (length net.nodes) _ m none below
 
   write_held : (now : Turn) (n c : ℕ) → c < length net.channels
       → held_in (write net arrivals t now n).held c
       ≡ cond (eqb (channel_of net c).writer n)
       (keeping (channel_of net c) (held_in now.held c) (brings net arrivals t now n c)) (held_in now.held c)
   unfolding write
-  write_held now n c below = get_d_tab (length net.channels) _ c [] below
+  write_held now n c below = get_or_tab (length net.channels) _ c [] below
 
   write_wrote : (now : Turn) (n c : ℕ) → c < length net.channels
       → wrote_to (write net arrivals t now n) c
       ≡ cond (eqb (channel_of net c).writer n) (wrote_to now c ++ brings net arrivals t now n c) (wrote_to now c)
   unfolding write
-  write_wrote now n c below = get_d_tab (length net.channels) _ c [] below
+  write_wrote now n c below = get_or_tab (length net.channels) _ c [] below
 
   -- what a node has waiting, and what its own turn makes of it
   waiting_cell : (m : ℕ) → m < length net.nodes
@@ -114,7 +114,7 @@ module _ (net : Network) (arrivals : List ℕ) (t : ℕ) (st : State) (orders : 
       unfolding after_writes begin
       writes_held =
           sym
-          (tab_get_d (write_all net arrivals t orders.writes st).held (length net.channels) _ [] writes_sized.channels
+          (tab_get_or (write_all net arrivals t orders.writes st).held (length net.channels) _ [] writes_sized.channels
           (λ c below.
           sym (channel_written c below (λ now. held_in now.held c) (keeping (channel_of net c)) (λ now n. write_held net arrivals t now n c below))))
 
@@ -123,4 +123,4 @@ module _ (net : Network) (arrivals : List ℕ) (t : ℕ) (st : State) (orders : 
       unfolding begin
       writes_wrote c below =
           channel_written c below (λ now. wrote_to now c) (λ old new. old ++ new) (λ now n. write_wrote net arrivals t now n c below)
-          ∙ rw (get_d_tab {A = List ℤ} (length net.channels) (λ d. []) c [] below)
+          ∙ rw (get_or_tab {A = List ℤ} (length net.channels) (λ d. []) c [] below)
