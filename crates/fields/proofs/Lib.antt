@@ -1,4 +1,2 @@
 pub mod Turn
-pub mod Signs
-pub mod Readers
 pub mod Settled

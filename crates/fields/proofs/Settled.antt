@@ -5,12 +5,6 @@ use Rattle.rules.proofs.Settle.{Settled}
 use Rattle.fields.specs.contracts as contracts
 use Rattle.fields.proofs as calls
 
-pub wide : Settled contracts.wide.ended calls.wide.Reads.Learnt
-wide κs args o p e f = Σ_path (e ∙⁻¹ f) refl
-
-pub wide64 : Settled contracts.wide64.ended calls.wide64.Reads.Learnt
-wide64 κs args o p e f = Σ_path (e ∙⁻¹ f) refl
-
 pub there : Settled contracts.there.ended calls.there.Reads.Learnt
 there κs args o p e f = Σ_path (e ∙⁻¹ f) refl
 
@@ -23,11 +17,11 @@ signed κs args o p e f = Σ_path (e ∙⁻¹ f) refl
 pub pattern : Settled contracts.pattern.ended calls.pattern.Reads.Learnt
 pattern κs args o p e f = Σ_path (e ∙⁻¹ f) refl
 
-pub made : Settled contracts.made.ended calls.made.Reads.Learnt
-made κs args o p e f = Σ_path (λ i. record { bytes = (e.0 ∙⁻¹ f.0) i; at = (e.1 ∙⁻¹ f.1) i }) refl
+pub new : Settled contracts.Reader.new.ended calls.Reader.new.Reads.Learnt
+new κs args o p e f = Σ_path (λ i. record { bytes = (e.0 ∙⁻¹ f.0) i; at = (e.1 ∙⁻¹ f.1) i }) refl
 
-pub moved : Settled contracts.moved.ended calls.moved.Reads.Learnt
+pub moved : Settled contracts.Reader.moved.ended calls.Reader.moved.Reads.Learnt
 moved κs args o p e f = Σ_path (λ i. record { bytes = (e.0 ∙⁻¹ f.0) i; at = (e.1 ∙⁻¹ f.1) i }) refl
 
-pub take : Settled contracts.take.ended calls.take.Reads.Learnt
+pub take : Settled contracts.Reader.take.ended calls.Reader.take.Reads.Learnt
 take κs args o p e f = Σ_path (e ∙⁻¹ f) refl

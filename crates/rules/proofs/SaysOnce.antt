@@ -4,8 +4,10 @@ use Prim.Native.Nat.{ℕ}
 use mathlib.Core.List.{List, [], ◌∷◌}
 use mathlib.Core.Path.{◌≡◌, refl}
 use lib.ListN.{get_or}
+use Rattle.std.specs.Prelude.{Result, Ok, Err}
 use Rattle.rules.specs.declared.Refusal.{Refusal}
-use Rattle.rules.specs.declared.Checked.{Checked}
+use Rattle.rules.specs.declared.Counts.{Counts}
+use Rattle.rules.specs.declared.End.{End}
 use Rattle.rules.specs.declared.Ran.{Ran}
 use Rattle.rules.specs.Refusals.{number_of, place_of, CheckSays, checked_says, RunSays, ran_says}
 use Rattle.rules.proofs.Settle.{Once, once_by}
@@ -45,25 +47,31 @@ refusal_found none refused others (Refusal.Arrival index) = refl
 pub checked_says_once : Once checked_says
 checked_says_once = once_by find found
   where
-    find : CheckSays → Checked
-    find says = numbered (Checked.Taken says.nodes says.channels) Checked.Refused says.place [] says.number
+    find : CheckSays → Result Counts Refusal
+    find says = numbered (Ok (record { nodes = says.nodes; channels = says.channels })) Err says.place [] says.number
 
-    found : (answer : Checked) → find (checked_says answer) ≡ answer
-    found (Checked.Taken nodes channels) = refl
-    found (Checked.Refused why) = refusal_found (Checked.Taken 0 0) Checked.Refused [] why
+    found : (answer : Result Counts Refusal) → find (checked_says answer) ≡ answer
+    found (Ok counts) = refl
+    found (Err why) = refusal_found (Ok (record { nodes = 0; channels = 0 })) Err [] why
 
 pub ran_says_once : Once ran_says
 ran_says_once = once_by find found
   where
-    find : RunSays → Ran
-    find says =
-        numbered (Ran.End says.count) Ran.Refused says.place
-        (Ran.Overfull says.count says.place says.channel ∷ Ran.NoRoom says.count says.place ∷ [])
-        says.number
+    ran : ℕ → End → Result Ran Refusal
+    ran count end = Ok (record { count = count; end = end })
 
-    found : (answer : Ran) → find (ran_says answer) ≡ answer
-    found (Ran.End count) = refl
-    found (Ran.Overfull count instant channel) = refl
-    found (Ran.NoRoom count instant) = refl
-    found (Ran.Refused why) =
-        refusal_found (Ran.End 0) Ran.Refused (Ran.Overfull 0 (place_of why) 0 ∷ Ran.NoRoom 0 (place_of why) ∷ []) why
+    stops : ℕ → ℕ → ℕ → List (Result Ran Refusal)
+    stops count place channel = ran count (End.Overfull place channel) ∷ ran count (End.NoRoom place) ∷ []
+
+    find : RunSays → Result Ran Refusal
+    find says =
+        numbered (ran says.count End.Horizon) Err says.place (stops says.count says.place says.channel) says.number
+
+    ended : (count : ℕ) (end : End) → find (ran_says (ran count end)) ≡ ran count end
+    ended count End.Horizon = refl
+    ended count (End.Overfull instant channel) = refl
+    ended count (End.NoRoom instant) = refl
+
+    found : (answer : Result Ran Refusal) → find (ran_says answer) ≡ answer
+    found (Ok r) = ended r.count r.end
+    found (Err why) = refusal_found (ran 0 End.Horizon) Err (stops 0 (place_of why) 0) why

@@ -1,7 +1,8 @@
 -- Refusals and stops: the two entry points, and the paper's number and values for each case of their answers. Assumes nothing.
-use Rattle.std.specs.Prelude.{ℕ, suc, ◌-◌, Bool, not, ◌&&◌, ◌||◌, List, [], ◌++◌, eqb, leb, ltb, get_or, length, drop}
+use Rattle.std.specs.Prelude.{ℕ, suc, ◌-◌, Bool, not, ◌&&◌, ◌||◌, List, [], ◌++◌, eqb, leb, ltb, get_or, length, drop, Result, Ok, Err}
 use Rattle.rules.specs.declared.Refusal.{Refusal}
-use Rattle.rules.specs.declared.Checked.{Checked}
+use Rattle.rules.specs.declared.Counts.{Counts}
+use Rattle.rules.specs.declared.End.{End}
 use Rattle.rules.specs.declared.Ran.{Ran}
 use Rattle.rules.specs.Lists.{lowest}
 use Rattle.rules.specs.Network.{Network, channel_of, outside}
@@ -119,13 +120,26 @@ place_of (Refusal.Ports node) = node
 place_of Refusal.Horizon = 0
 place_of (Refusal.Arrival index) = index
 
-abbrev pub checked_says : Checked → CheckSays
-checked_says (Checked.Taken nodes channels) = record { number = 0; place = 0; nodes = nodes; channels = channels }
-checked_says (Checked.Refused why) = record { number = number_of why; place = place_of why; nodes = 0; channels = 0 }
+abbrev pub end_number : End → ℕ
+end_number End.Horizon = 0
+end_number (End.Overfull instant channel) = 11
+end_number (End.NoRoom instant) = 12
 
-abbrev pub ran_says : Ran → RunSays
-ran_says (Ran.End count) = record { number = 0; place = 0; channel = 0; count = count }
-ran_says (Ran.Overfull count instant channel) =
-    record { number = 11; place = instant; channel = channel; count = count }
-ran_says (Ran.NoRoom count instant) = record { number = 12; place = instant; channel = 0; count = count }
-ran_says (Ran.Refused why) = record { number = number_of why; place = place_of why; channel = 0; count = 0 }
+abbrev pub end_instant : End → ℕ
+end_instant End.Horizon = 0
+end_instant (End.Overfull instant channel) = instant
+end_instant (End.NoRoom instant) = instant
+
+abbrev pub end_channel : End → ℕ
+end_channel End.Horizon = 0
+end_channel (End.Overfull instant channel) = channel
+end_channel (End.NoRoom instant) = 0
+
+abbrev pub checked_says : Result Counts Refusal → CheckSays
+checked_says (Ok counts) = record { number = 0; place = 0; nodes = counts.nodes; channels = counts.channels }
+checked_says (Err why) = record { number = number_of why; place = place_of why; nodes = 0; channels = 0 }
+
+abbrev pub ran_says : Result Ran Refusal → RunSays
+ran_says (Ok ran) =
+    record { number = end_number ran.end; place = end_instant ran.end; channel = end_channel ran.end; count = ran.count }
+ran_says (Err why) = record { number = number_of why; place = place_of why; channel = 0; count = 0 }

@@ -1,8 +1,14 @@
 // The types that code and definitions share. The rules themselves are in specs/, a file for each section of document 01.
 #![tactic(auto)]
 
+ghost use Rattle.std.specs.Prelude.{◌≡◌};
+ghost use Rattle.rules.specs.Refusals.{number_of, place_of, end_number, end_instant, end_channel};
+
+use std::error::Error;
+use std::fmt;
+
 // A node, as its 69 bits have it.
-#[derive(Clone, Copy)]
+#[derive(Clone, Copy, Debug, PartialEq, Eq)]
 pub struct Node {
     pub kind: u32,
     pub period: u32,
@@ -11,7 +17,7 @@ pub struct Node {
 }
 
 // A channel, as its 29 bits have it. Its tokens stand beside it.
-#[derive(Clone, Copy)]
+#[derive(Clone, Copy, Debug, PartialEq, Eq)]
 pub struct Channel {
     pub sort: u32,
     pub writer: u32,
@@ -22,7 +28,7 @@ pub struct Channel {
 }
 
 // Why an input is refused, with its place: refusals 1 to 10, in the order of their numbers.
-#[derive(Clone, Copy)]
+#[derive(Clone, Copy, Debug, PartialEq, Eq)]
 pub enum Refusal {
     BitsEnd(usize),
     Version,
@@ -36,27 +42,123 @@ pub enum Refusal {
     Arrival(usize),
 }
 
-// What the check of a table answers: its node and channel counts, or a refusal.
-#[derive(Clone, Copy)]
-pub enum Checked {
-    Taken { nodes: usize, channels: usize },
-    Refused(Refusal),
+impl Refusal {
+    // Its number in the rules.
+    pub fn number(self) -> usize
+        ensures { result ≡ number_of self }
+    {
+        match self {
+            Refusal::BitsEnd(_) => 1,
+            Refusal::Version => 2,
+            Refusal::Counts => 3,
+            Refusal::NodeField(_) => 4,
+            Refusal::ChannelField(_) => 5,
+            Refusal::Capacities(_) => 6,
+            Refusal::Leftover => 7,
+            Refusal::Ports(_) => 8,
+            Refusal::Horizon => 9,
+            Refusal::Arrival(_) => 10,
+        }
+    }
+
+    // Its place.
+    pub fn place(self) -> usize
+        ensures { result ≡ place_of self }
+    {
+        match self {
+            Refusal::Version | Refusal::Counts | Refusal::Leftover | Refusal::Horizon => 0,
+            Refusal::BitsEnd(place)
+            | Refusal::NodeField(place)
+            | Refusal::ChannelField(place)
+            | Refusal::Capacities(place)
+            | Refusal::Ports(place)
+            | Refusal::Arrival(place) => place,
+        }
+    }
 }
 
-// What a run answers: the count of its words and its end, a stop with its instant and channel, or a refusal.
-#[derive(Clone, Copy)]
-pub enum Ran {
-    End {
-        count: usize,
-    },
-    Overfull {
-        count: usize,
-        instant: usize,
-        channel: usize,
-    },
-    NoRoom {
-        count: usize,
-        instant: usize,
-    },
-    Refused(Refusal),
+impl fmt::Display for Refusal {
+    fn fmt<W: fmt::Write>(&self, f: &mut fmt::Formatter<W>) -> fmt::Result {
+        let number = self.number();
+        let place = self.place();
+        write!(f, "refused {number} {place}")
+    }
+}
+
+impl Error for Refusal {}
+
+// What the check answers of a table that it takes: its node and channel counts.
+#[derive(Clone, Copy, Debug, PartialEq, Eq)]
+pub struct Counts {
+    pub nodes: usize,
+    pub channels: usize,
+}
+
+impl fmt::Display for Counts {
+    fn fmt<W: fmt::Write>(&self, f: &mut fmt::Formatter<W>) -> fmt::Result {
+        let nodes = self.nodes;
+        let channels = self.channels;
+        write!(f, "taken {nodes} {channels}")
+    }
+}
+
+// How a run ends: at its horizon, or stopped at an instant, with a full channel or because its words do not fit.
+#[derive(Clone, Copy, Debug, PartialEq, Eq)]
+pub enum End {
+    Horizon,
+    Overfull { instant: usize, channel: usize },
+    NoRoom { instant: usize },
+}
+
+impl End {
+    // Its number in the rules, 0 at the horizon.
+    pub fn number(self) -> usize
+        ensures { result ≡ end_number self }
+    {
+        match self {
+            End::Horizon => 0,
+            End::Overfull { .. } => 11,
+            End::NoRoom { .. } => 12,
+        }
+    }
+
+    // The instant of a stop, 0 at the horizon.
+    pub fn instant(self) -> usize
+        ensures { result ≡ end_instant self }
+    {
+        match self {
+            End::Horizon => 0,
+            End::Overfull { instant, .. } | End::NoRoom { instant } => instant,
+        }
+    }
+
+    // The full channel, 0 where there is none.
+    pub fn channel(self) -> usize
+        ensures { result ≡ end_channel self }
+    {
+        match self {
+            End::Overfull { channel, .. } => channel,
+            End::Horizon | End::NoRoom { .. } => 0,
+        }
+    }
+}
+
+// What a run answers: the count of its words, and how it ends.
+#[derive(Clone, Copy, Debug, PartialEq, Eq)]
+pub struct Ran {
+    pub count: usize,
+    pub end: End,
+}
+
+impl fmt::Display for Ran {
+    fn fmt<W: fmt::Write>(&self, f: &mut fmt::Formatter<W>) -> fmt::Result {
+        let count = self.count;
+        let number = self.end.number();
+        let instant = self.end.instant();
+        let channel = self.end.channel();
+        match self.end {
+            End::Horizon => write!(f, "end {count}"),
+            _ => write!(f, "stop {number} {instant} {channel} {count}"),
+        }
+    }
 }

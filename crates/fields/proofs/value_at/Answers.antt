@@ -16,7 +16,4 @@ overflow_add-value c =
     record { fits = omega (arith, c.bit.ensures, field_room c.args.s.now c.args.at c.loop-i.i (omega arith)) }
 
 pub loop-i-preserved : goal.loop-i-preserved
-loop-i-preserved c = (
-  omega arith,
-  field_turn c.args.s.now c.args.at c.loop-i.i _ _ c.loop-i.invariant.1 c.bit.ensures,
-)
+loop-i-preserved c = field_turn c.args.s.now c.args.at c.loop-i.i _ _ c.loop-i.invariant c.bit.ensures

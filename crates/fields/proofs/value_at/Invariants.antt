@@ -1,10 +1,7 @@
--- After i turns the value is the field's first i bits. What is left of the width falls.
-use Rattle.std.proofs.Common.{◌≡◌, ◌≤◌, ◌-◌}
+-- After i turns the value is the field's first i bits.
+use Rattle.std.proofs.Common.{◌≡◌}
 use Rattle.rules.specs.Table.{field_at}
 use Rattle.fields.proofs.value_at.Given as goal
 
 abbrev pub invariant-loop-i : goal.invariant-loop-i
-invariant-loop-i l = (l.i ≤ l.width) × (l.value ≡ field_at l.s l.at l.i)
-
-abbrev pub decreases-loop-i : goal.decreases-loop-i
-decreases-loop-i l = l.width - l.i
+invariant-loop-i l = l.value ≡ field_at l.s l.at l.i
