@@ -5,6 +5,12 @@ use Rattle.rules.proofs.Settle.{Settled}
 use Rattle.fields.specs.contracts as contracts
 use Rattle.fields.proofs as calls
 
+pub wide : Settled contracts.wide.ended calls.wide.Reads.Learnt
+wide κs args o p e f = Σ_path (e ∙⁻¹ f) refl
+
+pub wide64 : Settled contracts.wide64.ended calls.wide64.Reads.Learnt
+wide64 κs args o p e f = Σ_path (e ∙⁻¹ f) refl
+
 pub there : Settled contracts.there.ended calls.there.Reads.Learnt
 there κs args o p e f = Σ_path (e ∙⁻¹ f) refl
 

@@ -6,8 +6,14 @@ use Rattle.rules.proofs.Settle.{Settled}
 use Rattle.kinds.specs.contracts as contracts
 use Rattle.kinds.proofs as calls
 
-pub inputs : Settled contracts.inputs.ended calls.inputs.Reads.Learnt
+pub inputs : Settled contracts.Kind.inputs.ended calls.Kind.inputs.Reads.Learnt
 inputs κs args o p e f = Σ_path (e ∙⁻¹ f) refl
+
+pub takes : Settled contracts.Kind.takes.ended calls.Kind.takes.Reads.Learnt
+takes κs args o p e f = Σ_path (e ∙⁻¹ f) refl
+
+pub inputs_of : Settled contracts.inputs_of.ended calls.inputs_of.Reads.Learnt
+inputs_of κs args o p e f = Σ_path (e ∙⁻¹ f) refl
 
 pub result : Settled contracts.result.ended calls.result.Reads.Learnt
 result κs args o p e f = Σ_path (e.0 ∙⁻¹ f.0) refl

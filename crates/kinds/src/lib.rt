@@ -2,22 +2,106 @@
 #![tactic(auto)]
 
 ghost use Rattle.std.specs.Prelude.{◌≡◌, ◌+◌, ◌^◌, ◌<◌, min, true, false, if◌then◌else◌, nat_eq};
-ghost use Rattle.rules.specs.Kinds.{signed, smaller, larger, quotient, is_zero, result as kind_result, inputs};
+ghost use Rattle.rules.specs.Kinds.{signed, smaller, larger, quotient, is_zero, constant_ok, result as kind_result, inputs};
+ghost use Rattle.kinds.specs.Kind.{kind_number, Decodes};
 ghost use Rattle.kinds.specs.Nodes.{never, given, absent, made_of, made_says, ahead_of};
+
+use std::error::Error;
+use std::fmt;
 
 // Later than any instant: a node with nothing waiting is due then.
 pub const NEVER: u32 = 4294967295;
 
-// ---- Inputs
+// ---- Kinds
+
+// What a node computes, in the order of the kinds' numbers.
+#[derive(Clone, Copy, Debug, PartialEq, Eq)]
+pub enum Kind {
+    Constant,
+    Copy,
+    AddConstant,
+    Sum,
+    Difference,
+    Smaller,
+    Larger,
+    Quotient,
+    Choice,
+    Gate,
+    Ones,
+    FirstBeam,
+}
+
+// A number that stands for no kind.
+#[derive(Clone, Copy, Debug, PartialEq, Eq)]
+pub struct UnknownKind(pub u32);
+
+impl fmt::Display for UnknownKind {
+    fn fmt<W: fmt::Write>(&self, f: &mut fmt::Formatter<W>) -> fmt::Result {
+        write!(f, "{} is no kind", self.0)
+    }
+}
+
+impl Error for UnknownKind {}
+
+impl TryFrom<u32> for Kind {
+    type Error = UnknownKind;
+
+    ghost try_from_gives = { Decodes };
+
+    fn try_from(number: u32) -> Result<Self, UnknownKind> {
+        match number {
+            0 => Ok(Kind::Constant),
+            1 => Ok(Kind::Copy),
+            2 => Ok(Kind::AddConstant),
+            3 => Ok(Kind::Sum),
+            4 => Ok(Kind::Difference),
+            5 => Ok(Kind::Smaller),
+            6 => Ok(Kind::Larger),
+            7 => Ok(Kind::Quotient),
+            8 => Ok(Kind::Choice),
+            9 => Ok(Kind::Gate),
+            10 => Ok(Kind::Ones),
+            11 => Ok(Kind::FirstBeam),
+            _ => Err(UnknownKind(number)),
+        }
+    }
+}
+
+impl Kind {
+    // How many inputs it has.
+    #[tactic(auto, unfolding(rules::specs::Kinds::inputs))]
+    pub fn inputs(self) -> u32
+        ensures { result ≡ inputs (kind_number self) }
+    {
+        match self {
+            Kind::Constant => 0,
+            Kind::Copy | Kind::AddConstant | Kind::Quotient | Kind::Ones | Kind::FirstBeam => 1,
+            Kind::Sum | Kind::Difference | Kind::Smaller | Kind::Larger | Kind::Gate => 2,
+            Kind::Choice => 3,
+        }
+    }
+
+    // Whether a node of this kind may have this constant.
+    #[tactic(auto, using(rules::proofs::KindLaws::zero_of_bits), unfolding(rules::specs::Kinds::constant_ok))]
+    pub fn takes(self, constant: i32) -> bool
+        ensures { result ≡ constant_ok (kind_number self) constant }
+    {
+        match self {
+            Kind::Constant | Kind::AddConstant => true,
+            Kind::Quotient => constant != 0,
+            _ => constant == 0,
+        }
+    }
+}
 
 // How many inputs each kind has, kind 0 first.
 const INPUTS: [u32; 12] = [0, 1, 1, 2, 2, 2, 2, 1, 3, 2, 1, 1];
 
-pub fn inputs(kind: u32) -> u32
+pub fn inputs_of(kind: u32) -> u32
     requires { kind < 12 }
     ensures { result ≡ inputs kind }
 {
-    INPUTS[fields::wide(kind)]
+    INPUTS[kind as usize]
 }
 
 // ---- A node's result, on tokens by their 32 bits

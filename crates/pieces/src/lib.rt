@@ -2,120 +2,56 @@
 #![tactic(auto)]
 
 ghost use Rattle.std.specs.Prelude.{◌≡◌, ◌+◌, ◌*◌, ◌≤◌, ◌<◌, length};
-ghost use Rattle.rules.specs.Kinds.{constant_ok};
 ghost use Rattle.rules.specs.Network.{counts_ok, node_ok, end_ok, channel_ok};
 ghost use Rattle.rules.specs.Table.{header_at, node_at, node_piece, channel_at, channel_piece};
-ghost use Rattle.rules.specs.Refusals.{number_of, place_of};
-ghost use Rattle.pieces.specs.Says.{header_says, node_says, channel_says};
+ghost use Rattle.pieces.specs.Says.{says, says_by, header_of};
 
-use rules::{Channel, Node, Refusal};
-
-// What a header comes to.
-#[derive(Clone, Copy)]
-pub enum HeaderRead {
-    Counts { nodes: usize, channels: usize },
-    Refused(Refusal),
-}
-
-// What a node's piece comes to.
-#[derive(Clone, Copy)]
-pub enum NodeRead {
-    Read(Node),
-    Refused(Refusal),
-}
-
-// What a channel's piece comes to.
-#[derive(Clone, Copy)]
-pub enum ChannelRead {
-    Read(Channel),
-    Refused(Refusal),
-}
-
-// The paper's number of a refusal.
-pub fn number_of(why: Refusal) -> usize
-    ensures { result ≡ number_of why }
-{
-    match why {
-        Refusal::BitsEnd(_) => 1,
-        Refusal::Version => 2,
-        Refusal::Counts => 3,
-        Refusal::NodeField(_) => 4,
-        Refusal::ChannelField(_) => 5,
-        Refusal::Capacities(_) => 6,
-        Refusal::Leftover => 7,
-        Refusal::Ports(_) => 8,
-        Refusal::Horizon => 9,
-        Refusal::Arrival(_) => 10,
-    }
-}
-
-// The place of a refusal.
-pub fn place_of(why: Refusal) -> usize
-    ensures { result ≡ place_of why }
-{
-    match why {
-        Refusal::BitsEnd(bit) => bit,
-        Refusal::Version => 0,
-        Refusal::Counts => 0,
-        Refusal::NodeField(node) => node,
-        Refusal::ChannelField(channel) => channel,
-        Refusal::Capacities(channel) => channel,
-        Refusal::Leftover => 0,
-        Refusal::Ports(node) => node,
-        Refusal::Horizon => 0,
-        Refusal::Arrival(index) => index,
-    }
-}
+use kinds::Kind;
+use rules::{Channel, Counts, Node, Refusal};
 
 // ---- The header
 
+#[tactic(auto, unfolding(rules::specs::Network::counts_ok))]
 fn counts_ok(nodes: usize, channels: usize) -> bool
     ensures { result ≡ counts_ok nodes channels }
 {
     (1 <= nodes) & (nodes <= 32) & (channels <= 64)
 }
 
-pub fn read_header(s: &[u8]) -> HeaderRead
-    ensures { header_says result ≡ header_at s.now }
+#[tactic(auto, unfolding(rules::specs::Table::header_at))]
+pub fn read_header(s: &[u8]) -> Result<Counts, Refusal>
+    ensures { says_by header_of result ≡ header_at s.now }
 {
-    if fields::there(s, 0, 24) {
-        if fields::field(s, 0, 4) == 1 {
-            let nodes = fields::wide(fields::field(s, 4, 6));
-            let channels = fields::wide(fields::field(s, 10, 7));
-            let spare = fields::field(s, 17, 7);
-            if counts_ok(nodes, channels) & (spare == 0) {
-                return HeaderRead::Counts { nodes, channels };
-            }
-            return HeaderRead::Refused(Refusal::Counts);
-        }
-        return HeaderRead::Refused(Refusal::Version);
+    if !fields::there(s, 0, 24) {
+        return Err(Refusal::BitsEnd(0));
     }
-    HeaderRead::Refused(Refusal::BitsEnd(0))
+    if fields::field(s, 0, 4) != 1 {
+        return Err(Refusal::Version);
+    }
+    let nodes = fields::field(s, 4, 6) as usize;
+    let channels = fields::field(s, 10, 7) as usize;
+    let spare = fields::field(s, 17, 7);
+    if counts_ok(nodes, channels) & (spare == 0) {
+        return Ok(Counts { nodes, channels });
+    }
+    Err(Refusal::Counts)
 }
 
 // ---- Nodes
 
-// Whether a node of this kind may have this constant.
-fn constant_ok(kind: u32, constant: i32) -> bool
-    ensures { result ≡ constant_ok kind constant }
-{
-    if (kind == 0) | (kind == 2) {
-        return true;
-    }
-    if kind == 7 {
-        return constant != 0;
-    }
-    constant == 0
-}
-
+#[tactic(auto, unfolding(rules::specs::Network::node_ok))]
 fn node_ok(n: Node) -> bool
     ensures { result ≡ node_ok n }
 {
     let period = (1 <= n.period) & (n.period <= 65535);
     let deadline = (1 <= n.deadline) & (n.deadline <= n.period);
-    (n.kind < 12) & period & deadline & constant_ok(n.kind, n.constant)
+    match Kind::try_from(n.kind) {
+        Ok(kind) => period & deadline & kind.takes(n.constant),
+        Err(_) => false,
+    }
 }
 
+#[tactic(auto, unfolding(rules::specs::Table::node_at))]
 fn node_at(s: &[u8], at: usize) -> Node
     requires { (at + 69 ≤ 8 * length s.now) × (at < 65536) }
     ensures { result ≡ node_at s.now at }
@@ -132,19 +68,20 @@ fn node_at(s: &[u8], at: usize) -> Node
     }
 }
 
-pub fn node_piece(s: &[u8], n: usize) -> NodeRead
+#[tactic(auto, unfolding(rules::specs::Table::node_piece))]
+pub fn node_piece(s: &[u8], n: usize) -> Result<Node, Refusal>
     requires { n < 32 }
-    ensures { node_says result ≡ node_piece s.now n }
+    ensures { says result ≡ node_piece s.now n }
 {
     let at = 24 + 69 * n;
-    if fields::there(s, at, 69) {
-        let node = node_at(s, at);
-        if node_ok(node) {
-            return NodeRead::Read(node);
-        }
-        return NodeRead::Refused(Refusal::NodeField(n));
+    if !fields::there(s, at, 69) {
+        return Err(Refusal::BitsEnd(at));
     }
-    NodeRead::Refused(Refusal::BitsEnd(at))
+    let node = node_at(s, at);
+    if node_ok(node) {
+        return Ok(node);
+    }
+    Err(Refusal::NodeField(n))
 }
 
 // ---- Channels
@@ -153,9 +90,10 @@ pub fn node_piece(s: &[u8], n: usize) -> NodeRead
 fn end_ok(nodes: usize, n: u32) -> bool
     ensures { result ≡ end_ok nodes n }
 {
-    (fields::wide(n) < nodes) | (n == 63)
+    ((n as usize) < nodes) | (n == 63)
 }
 
+#[tactic(auto, unfolding(rules::specs::Network::channel_ok))]
 fn channel_ok(nodes: usize, ch: Channel) -> bool
     ensures { result ≡ channel_ok nodes ch }
 {
@@ -168,6 +106,7 @@ fn channel_ok(nodes: usize, ch: Channel) -> bool
     ends & capacity & (ch.initial <= ch.capacity) & register & out & !through
 }
 
+#[tactic(auto, unfolding(rules::specs::Table::channel_at))]
 fn channel_at(s: &[u8], at: usize) -> Channel
     requires { (at + 29 ≤ 8 * length s.now) × (at < 65536) }
     ensures { result ≡ channel_at s.now at }
@@ -190,19 +129,26 @@ fn channel_at(s: &[u8], at: usize) -> Channel
 
 // Channel `c`, which stands at bit `at` behind channels whose capacities together are `together`.
 #[tactic(auto, unfolding(rules::specs::Table::channel_piece))]
-pub fn channel_piece(s: &[u8], nodes: usize, c: usize, at: usize, together: usize) -> ChannelRead
+pub fn channel_piece(
+    s: &[u8],
+    nodes: usize,
+    c: usize,
+    at: usize,
+    together: usize,
+) -> Result<Channel, Refusal>
     requires { (at < 65536) × (together ≤ 1024) }
-    ensures { channel_says result ≡ channel_piece s.now nodes c at together }
+    ensures { says result ≡ channel_piece s.now nodes c at together }
 {
-    if fields::there(s, at, 29) {
-        let ch = channel_at(s, at);
-        if channel_ok(nodes, ch) {
-            if together + fields::wide(ch.capacity) <= 1024 {
-                return ChannelRead::Read(ch);
-            }
-            return ChannelRead::Refused(Refusal::Capacities(c));
-        }
-        return ChannelRead::Refused(Refusal::ChannelField(c));
+    if !fields::there(s, at, 29) {
+        return Err(Refusal::BitsEnd(at));
     }
-    ChannelRead::Refused(Refusal::BitsEnd(at))
+    let ch = channel_at(s, at);
+    if !channel_ok(nodes, ch) {
+        return Err(Refusal::ChannelField(c));
+    }
+    let most = together + ch.capacity as usize;
+    if most <= 1024 {
+        return Ok(ch);
+    }
+    Err(Refusal::Capacities(c))
 }
