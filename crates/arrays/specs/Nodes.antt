@@ -2,7 +2,7 @@
 use Rattle.std.specs.Prelude.{ℕ, zero, suc, ◌+◌, ◌*◌, ◌^◌, ◌≤◌, ◌<◌, min, Bool, false, cond, not, ◌&&◌, List, ◌≡◌, eqb, ℤ, get_or, length}
 use Rattle.std.proofs.Math.Option.{Option, none}
 use Rattle.rules.specs.Lists.{every}
-use Rattle.rules.specs.Kinds.{signed, is_zero, result, inputs}
+use Rattle.rules.specs.Kinds.{signed, pattern, is_zero, result, inputs}
 use Rattle.rules.specs.Instant.{Waiting, wait_for}
 use Rattle.kinds.specs.declared.Pending.{Pending}
 use Rattle.kinds.specs.Nodes.{never, waiting_by}
@@ -12,7 +12,7 @@ use Rattle.arrays.specs.Taking.{port_of, Ported, at_port, all_hold, found, taken
 
 -- a node's next release and waiting result
 abbrev pub pending_at : Pendings → ℕ → Pending
-pending_at p n = record { next = get_or p.next n 0; due = get_or p.due n 0; value = get_or p.value n 0 }
+pending_at p n = record { next = get_or p.next n 0; due = get_or p.due n 0; value = signed (get_or p.value n 0) }
 
 abbrev pub waiting_at : Pendings → ℕ → Option Waiting
 waiting_at p n = waiting_by (get_or p.due n 0) (get_or p.value n 0)
@@ -80,7 +80,7 @@ pub record Released (w : Wires) (s : Shape) (x : Cells) (n : ℕ) (before : Pend
   pub took : Took s x (taken_at s x w.input n (inputs_at w n)) y
   pub next : r.next ≡ before.next + get_or w.period n 0
   pub waits :
-      waiting_by r.due r.value
+      waiting_by r.due (pattern r.value)
       ≡ cond (all_hold s x w.input n (inputs_at w n)) (wait_for (before.next + get_or w.deadline n 0) (result_at w s x n)) none
 
 -- node n has had its turn to read at t; the others are as they were
