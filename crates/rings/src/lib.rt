@@ -8,6 +8,7 @@ ghost use Rattle.rings.specs.Access.{put_in, full_by, taken_in, oldest_in};
 
 use layout::{Plan, Sort, State};
 
+#[tactic(auto, unfolding(crate::specs::Rings::wrapped))]
 fn wrap(x: u32, capacity: u32) -> u32
     ensures { result ≡ wrapped capacity x }
 {
@@ -15,6 +16,7 @@ fn wrap(x: u32, capacity: u32) -> u32
 }
 
 // Writes a token to channel `c`: a queue appends it, a register keeps it. Answers `full`, or `c` where that is lower and there was no room.
+#[tactic(auto, using(crate::proofs::AccessLaws::sort_seen), unfolding(crate::specs::Rings::wrapped, crate::specs::Access::put_in, crate::specs::Access::full_by))]
 pub fn put(plan: &Plan, state: &mut State, c: usize, v: i32, full: usize) -> usize
     requires { Rings (shape_of plan.now) (cells_of state.old) × (c < channels_of plan.now) }
     ensures after { state.new ≡ put_in plan.now state.old c v }
@@ -39,6 +41,7 @@ pub fn put(plan: &Plan, state: &mut State, c: usize, v: i32, full: usize) -> usi
 }
 
 // Takes the oldest token of a queue, or reads a register.
+#[tactic(auto, using(crate::proofs::AccessLaws::sort_seen), unfolding(crate::specs::Rings::wrapped, crate::specs::Access::taken_in, crate::specs::Access::oldest_in))]
 pub fn take(plan: &Plan, state: &mut State, c: usize) -> i32
     requires { Rings (shape_of plan.now) (cells_of state.old) × (c < channels_of plan.now) × (1 ≤ get_or (cells_of state.old).len c 0) }
     ensures after { state.new ≡ taken_in plan.now state.old c }
