@@ -1,6 +1,5 @@
 -- What an instant comes to, and what its functions promise of their answers. Assumes nothing.
-use Rattle.std.specs.Prelude.{ℕ, ◌-◌, min, List, ◌≡◌, ℤ, pos, length, get_or, Option, is_some, IfSome, Result, Ok, Err}
-use Rattle.core.specs.Option.{unwrap_or}
+use Rattle.std.specs.Prelude.{ℕ, ◌-◌, min, List, ◌≡◌, ℤ, pos, length, get_or, Option, is_some, IfSome, unwrap_or, Result, Ok, Err}
 use Rattle.rules.specs.Network as rules
 use Rattle.rules.specs.Kinds.{pattern}
 use Rattle.rules.specs.Instant.{State, stops, instant}

@@ -176,7 +176,8 @@ fn release(plan: &Plan, state: &mut State, before: Pending, n: usize) -> Pending
 {
     let period = plan.period[n];
     match take_inputs(plan, state, n, plan.count[n]) {
-        Some([a, b, c]) => {
+        Some(tokens) => {
+            let [a, b, c] = tokens;
             let made = plan.kind[n].result(plan.constant[n], a, b, c);
             before.ahead(period, plan.deadline[n], made)
         }
