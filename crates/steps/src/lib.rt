@@ -162,8 +162,14 @@ fn take_inputs(plan: &Plan, state: &mut State, n: usize, count: u32) -> Option<[
 {
     match count {
         0 => Some([0, 0, 0]),
-        1 => take_all::<1>(plan, state, n).map(|[a]| [a, 0, 0]),
-        2 => take_all::<2>(plan, state, n).map(|[a, b]| [a, b, 0]),
+        1 => {
+            let [a] = take_all::<1>(plan, state, n)?;
+            Some([a, 0, 0])
+        }
+        2 => {
+            let [a, b] = take_all::<2>(plan, state, n)?;
+            Some([a, b, 0])
+        }
         _ => take_all::<3>(plan, state, n),
     }
 }
