@@ -2,11 +2,12 @@
 use Prim.Native.Nat.{ℕ, ◌-◌, ◌<◌, ◌^◌, min}
 use native.Mathlib.Omega.{arith}
 use mathlib.Core.Bool.{Bool, not, ◌&&◌}
-use mathlib.Core.List.{List, [], ◌∷◌, ◌++◌, map, map-append}
-use mathlib.Core.Path.{◌≡◌, refl, sym, ◌∙◌, ap, ap₂}
+use mathlib.Core.List.{List, [], ◌++◌, map, map-append}
+use mathlib.Core.Path.{◌≡◌, sym, ◌∙◌, ap, ap₂}
 use lib.Dec.{ltb}
 use lib.IntN.{ℤ}
-use lib.ListN.{length}
+use lib.ListN.{length, length-map}
+use Rattle.std.proofs.lemmas.List.{nil_from_length}
 use Rattle.rules.specs.Lists.{lowest}
 use Rattle.rules.specs.Kinds.{signed}
 use Rattle.rules.specs.Network.{Network, Obeys, channel_of, is_register}
@@ -31,8 +32,7 @@ pub record WritesStand (net : Network) (arrivals : List ℕ) (t : ℕ) (st : Sta
   pub held : full ≡ length net.channels → (c : ℕ) → c < length net.channels → held_in (after_writes net arrivals t st) c ≡ map signed (held_at s z c)
 
 map_none : (l : List ℕ) → map signed l ≡ [] → l ≡ []
-map_none [] h = refl
-map_none (x ∷ xs) h = let z : ◌≡◌ {A = ℕ} 0 1 = cc in absurd (omega arith)
+map_none l h = nil_from_length l (sym (length-map l signed) ∙ ap length h)
 
 -- the new tokens of channel c: those that are due, and those that arrive
 abbrev due_to : Network → ℕ → Pendings → ℕ → List ℕ
