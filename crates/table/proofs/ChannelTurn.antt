@@ -6,6 +6,7 @@ use native.Mathlib.Omega.{arith}
 use mathlib.Core.List.{List, [], ◌∷◌, ◌++◌}
 use mathlib.Core.Path.{◌≡◌, refl, sym, ◌∙◌, ap}
 use lib.ListN.{length, set, replicate}
+use Rattle.std.specs.Prelude.{Err}
 use Rattle.rules.specs.declared.Channel.{Channel}
 use Rattle.rules.specs.declared.Refusal.{Refusal}
 use Rattle.rules.specs.Lists.{tab_from, tab}
@@ -13,7 +14,6 @@ use Rattle.rules.specs.Network.{channel_among}
 use Rattle.rules.specs.Table.{Reading, refusal, read, ◌then◌, with_channel, tokens_up_to, channel_piece, channels_up_to}
 use Rattle.rules.proofs.Pieces.{tokens_count}
 use Rattle.rules.proofs.ReadingLaws.{channels_refused}
-use Rattle.pieces.specs.declared.ChannelRead.{ChannelRead}
 use Rattle.table.specs.declared.ChannelArrays.{ChannelArrays}
 use Rattle.table.specs.Laid.{all_places, padded, channel_arrays}
 use Rattle.pieces.specs.Says.{refused_by}
@@ -65,11 +65,11 @@ module _ {s : List ℕ} {nodes c at together : ℕ} {arrays : ChannelArrays} (up
       }
 
   -- the next channel's refusal refuses them all
-  pub refused_next : (count : ℕ) {p : ChannelRead} {why : Refusal} (after : List ℕ) → c < count → ChannelWithTokens s nodes c at together arrays.tokens p after → p ≡ ChannelRead.Refused why → channels_up_to s nodes count ≡ refused_by why
+  pub refused_next : (count : ℕ) (why : Refusal) (after : List ℕ) → c < count → ChannelWithTokens s nodes c at together arrays.tokens (Err why) after → channels_up_to s nodes count ≡ refused_by why
   unfolding channels_up_to
-  refused_next count {p} {why} after more got is =
+  refused_next count why after more got =
       let all = up_to_lem.done.all in
-      let next = rw (is, up_to_lem.done.ends, up_to_lem.sum) at got in
+      let next = rw (up_to_lem.done.ends, up_to_lem.sum) at got in
       let through = refused_through (channel_piece s nodes c all.end all.together) (λ ch. tokens_up_to s (all.end + 29) ch.initial) (λ ch tokens. read (with_channel all ch tokens)) _ _ next in
       let here : channels_up_to s nodes (suc c) ≡ refused_by why = rw up_to_lem.done.reads through in
       let rest : suc c + (count - suc c) ≡ count = omega arith in
