@@ -30,7 +30,7 @@ refused_through (read a) go last number place e = rw e
 
 -- the first channels are read and laid out, with the bit behind them and their capacities together
 pub record UpTo (s : List ℕ) (nodes c at together : ℕ) (arrays : ChannelArrays) : Type 0 where
-  pub done : ChannelsDone s nodes c at arrays
+  pub done : ChannelsDone s nodes c (record { end = at; arrays = arrays })
   pub sum : together ≡ done.all.together
 
 -- what the next channel needs

@@ -11,7 +11,6 @@ use Rattle.rules.specs.Table.{read, ◌then◌, nodes_up_to, tokens_up_to, chann
 use Rattle.pieces.specs.Says.{refused_by}
 use Rattle.table.specs.declared.Channels.{Channels}
 use Rattle.table.specs.declared.NodeArrays.{NodeArrays}
-use Rattle.table.specs.declared.ChannelArrays.{ChannelArrays}
 use Rattle.table.specs.Laid.{node_arrays, channel_arrays}
 
 -- the first n nodes are read and laid out
@@ -45,14 +44,14 @@ ChannelWithTokens s nodes c at together before (Err why) after =
     (channel_piece s nodes c at together then λ ch. tokens_up_to s (at + 29) ch.initial) ≡ refused_by why
 
 -- the first c channels are read and laid out, up to a bit
-pub record ChannelsDone (s : List ℕ) (nodes c end : ℕ) (arrays : ChannelArrays) : Type 0 where
+pub record ChannelsDone (s : List ℕ) (nodes c : ℕ) (done : Channels) : Type 0 where
   pub all : rules.Channels
   pub reads : channels_up_to s nodes c ≡ read all
-  pub ends : end ≡ all.end
-  pub laid : arrays ≡ channel_arrays all.channels all.tokens
+  pub ends : done.end ≡ all.end
+  pub laid : done.arrays ≡ channel_arrays all.channels all.tokens
 
 abbrev pub ChannelsRead : List ℕ → ℕ → ℕ → Result Channels Refusal → Type 0
-ChannelsRead s nodes c (Ok done) = ChannelsDone s nodes c done.end done.arrays
+ChannelsRead s nodes c (Ok done) = ChannelsDone s nodes c done
 ChannelsRead s nodes c (Err why) = channels_up_to s nodes c ≡ refused_by why
 
 -- channel c serves port p of node n, by the arrays of readers and ports

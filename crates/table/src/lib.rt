@@ -214,11 +214,7 @@ fn ports_ok(reader: &[u32; 64], port: &[u32; 64], channels: usize, n: usize, inp
     requires { (channels ≤ 64) × (n < 32) }
     ensures { result ≡ every 4 (served_right reader.now port.now channels n inputs) }
 {
-    let first = port_ok(reader, port, channels, n, 0, inputs);
-    let second = port_ok(reader, port, channels, n, 1, inputs);
-    let third = port_ok(reader, port, channels, n, 2, inputs);
-    let fourth = port_ok(reader, port, channels, n, 3, inputs);
-    first & second & third & fourth
+    (0..4).all(|p| port_ok(reader, port, channels, n, p, inputs))
 }
 
 // The lowest node with a port that is not served as it should be.
@@ -251,17 +247,20 @@ fn faulty_node(
 fn read_end(
     s: &[u8],
     counts: Counts,
-    end: usize,
     node: NodeArrays,
-    channel: ChannelArrays,
+    behind: Channels,
 ) -> Result<Network, Refusal>
-    requires { (header_at s.now ≡ read (header_of counts)) × NodesDone s.now counts.nodes node × ChannelsDone s.now counts.nodes counts.channels end channel }
+    requires { (header_at s.now ≡ read (header_of counts)) × NodesDone s.now counts.nodes node × ChannelsDone s.now counts.nodes counts.channels behind }
     ensures { TableOf (network s.now) result }
 {
+    let Counts { nodes, channels } = counts;
+    let Channels {
+        end,
+        arrays: channel,
+    } = behind;
     if !ends(s, end) {
         return Err(Refusal::Leftover);
     }
-    let Counts { nodes, channels } = counts;
     match faulty_node(&node.kind, &channel.reader, &channel.port, nodes, channels) {
         Some(faulty) => Err(Refusal::Ports(faulty)),
         None => Ok(Network {
@@ -280,8 +279,8 @@ fn read_rest(s: &[u8], counts: Counts, node: NodeArrays) -> Result<Network, Refu
     requires { (header_at s.now ≡ read (header_of counts)) × NodesDone s.now counts.nodes node }
     ensures { TableOf (network s.now) result }
 {
-    let read = read_channels(s, counts.nodes, counts.channels)?;
-    read_end(s, counts, read.end, node, read.arrays)
+    let behind = read_channels(s, counts.nodes, counts.channels)?;
+    read_end(s, counts, node, behind)
 }
 
 // The network that a table's bytes say, or the first refusal.
