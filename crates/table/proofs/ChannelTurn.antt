@@ -94,7 +94,7 @@ module _ {s : List ℕ} {nodes c at together : ℕ} {arrays : ChannelArrays} (up
         (stored_places up_to_lem.done.all.channels up_to_lem.done.all.tokens ch new.tokens.tokens (x.held ∙ sym x.count) held (omega (arith, fits.enough)))
 
     -- one channel more is read and laid out
-    pub channel_next : UpTo s nodes (c + 1) (at + 29 + 32 * ch.initial) (together + ch.capacity) (record { sort = set arrays.sort c ch.sort; writer = set arrays.writer c ch.writer; reader = set arrays.reader c ch.reader; port = set arrays.port c ch.port; capacity = set arrays.capacity c ch.capacity; initial = set arrays.initial c ch.initial; tokens = after })
+    pub channel_next : UpTo s nodes (c + 1) (at + (29 + 32 * ch.initial)) (together + ch.capacity) (record { sort = set arrays.sort c ch.sort; writer = set arrays.writer c ch.writer; reader = set arrays.reader c ch.reader; port = set arrays.port c ch.port; capacity = set arrays.capacity c ch.capacity; initial = set arrays.initial c ch.initial; tokens = after })
     unfolding channels_up_to with_channel channel_arrays
     channel_next =
         let all = up_to_lem.done.all in
@@ -106,7 +106,7 @@ module _ {s : List ℕ} {nodes c at together : ℕ} {arrays : ChannelArrays} (up
               record {
                 all = with_channel all ch new.tokens.tokens;
                 reads = rw (add-one, up_to_lem.done.reads, piece, tokens);
-                ends = rw up_to_lem.done.ends;
+                ends = omega (arith, up_to_lem.done.ends);
                 laid = λ i.
                     record {
                       sort = field_next (λ ch. ch.sort) arrays.sort (λ j. (laid j).sort) i;

@@ -47,17 +47,17 @@ module _ (s : List ℕ) {counts : Counts} (header : header_at s ≡ read (header
         let place : n < 32 = omega (arith, nodes_within) in
         rw (front.laid, get_or_tab 32 (λ i. (node_among front.nodes i).kind) n 0 place) known
 
-    module _ {behind : Channels} (back : ChannelsDone s counts.nodes counts.channels behind) where
+    module _ {done : Channels} (back : ChannelsDone s counts.nodes counts.channels done) where
       -- the network of the lists that were read
       net : rules.Network
       net = record { nodes = front.nodes; channels = back.all.channels; tokens = back.all.tokens }
 
       -- the table by its end and its ports
-      by_end : network s ≡ (unless (ends_at s behind.end) 7 0 net then λ net. unless (eqb (faulty_node net) (length net.nodes)) 8 (faulty_node net) net)
+      by_end : network s ≡ (unless (ends_at s done.end) 7 0 net then λ net. unless (eqb (faulty_node net) (length net.nodes)) 8 (faulty_node net) net)
       unfolding network net
       by_end = rw (header, front.reads, back.reads, back.ends)
 
-      pub end_near : behind.end < 65536
+      pub end_near : done.end < 65536
       end_near =
           let e = (channels_extent s counts.nodes counts.channels).given back.all back.reads in
           omega (arith, nodes_within, channels_within, back.ends, e.far, e.enough)
@@ -69,23 +69,23 @@ module _ (s : List ℕ) {counts : Counts} (header : header_at s ≡ read (header
       channel_count = (channels_count s counts.nodes counts.channels back.all back.reads).0
 
       -- the lowest faulty node by the arrays is the network's
-      faulty_is : lowest counts.nodes (faulty_in node.kind behind.arrays.reader behind.arrays.port counts.channels) ≡ faulty_node net
+      faulty_is : lowest counts.nodes (faulty_in node.kind done.arrays.reader done.arrays.port counts.channels) ≡ faulty_node net
       unfolding net
       faulty_is =
           rw (node_count, channel_count, ← front.laid, ← back.laid) at
           (faulty_lowest net (omega (arith, node_count, nodes_within)) (omega (arith, channel_count, channels_within)))
 
       -- once the end is right, the table by its ports
-      module _ (ended : true ≡ ends_at s behind.end) where
-        by_ports : {k : ℕ} → lowest counts.nodes (faulty_in node.kind behind.arrays.reader behind.arrays.port counts.channels) ≡ k → network s ≡ unless (eqb k counts.nodes) 8 k net
+      module _ (ended : true ≡ ends_at s done.end) where
+        by_ports : {k : ℕ} → lowest counts.nodes (faulty_in node.kind done.arrays.reader done.arrays.port counts.channels) ≡ k → network s ≡ unless (eqb k counts.nodes) 8 k net
         unfolding net
         by_ports e = rw (by_end, ← ended, ← faulty_is, e, node_count)
 
-        pub refused_by_ports : (k : ℕ) → k < counts.nodes → lowest counts.nodes (faulty_in node.kind behind.arrays.reader behind.arrays.port counts.channels) ≡ k → network s ≡ refused_by (Refusal.Ports k)
+        pub refused_by_ports : (k : ℕ) → k < counts.nodes → lowest counts.nodes (faulty_in node.kind done.arrays.reader done.arrays.port counts.channels) ≡ k → network s ≡ refused_by (Refusal.Ports k)
         refused_by_ports k below e = rw (by_ports e, ne_eqb k counts.nodes (λ same. omega arith))
 
         -- a table whose ports are right is taken, with the network of its lists
-        pub taken : lowest counts.nodes (faulty_in node.kind behind.arrays.reader behind.arrays.port counts.channels) ≡ counts.nodes → LaidFrom (network s) (record { nodes = counts.nodes; channels = counts.channels; node = node; channel = behind.arrays })
+        pub taken : lowest counts.nodes (faulty_in node.kind done.arrays.reader done.arrays.port counts.channels) ≡ counts.nodes → LaidFrom (network s) (record { nodes = counts.nodes; channels = counts.channels; node = node; channel = done.arrays })
         unfolding net laid
         taken e =
             record {

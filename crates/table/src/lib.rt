@@ -142,8 +142,8 @@ fn read_channels(s: &[u8], nodes: usize, count: usize) -> Result<Channels, Refus
         port[c] = ch.port;
         capacity[c] = ch.capacity;
         initial_count[c] = ch.initial;
-        at = at + 29 + 32 * ch.initial as usize;
-        together = together + ch.capacity as usize;
+        at += 29 + 32 * ch.initial as usize;
+        together += ch.capacity as usize;
     }
     Ok(Channels {
         end: at,
@@ -179,10 +179,8 @@ fn served(reader: &[u32; 64], port: &[u32; 64], channels: usize, n: usize, p: u3
 {
     let mut found = 0;
     for c in 0..channels {
-        if reader[c] as usize == n {
-            if port[c] == p {
-                found += 1;
-            }
+        if reader[c] as usize == n && port[c] == p {
+            found += 1;
         }
     }
     found
@@ -248,24 +246,26 @@ fn read_end(
     s: &[u8],
     counts: Counts,
     node: NodeArrays,
-    behind: Channels,
+    channels: Channels,
 ) -> Result<Network, Refusal>
-    requires { (header_at s.now ≡ read (header_of counts)) × NodesDone s.now counts.nodes node × ChannelsDone s.now counts.nodes counts.channels behind }
+    requires { (header_at s.now ≡ read (header_of counts)) × NodesDone s.now counts.nodes node × ChannelsDone s.now counts.nodes counts.channels channels }
     ensures { TableOf (network s.now) result }
 {
-    let Counts { nodes, channels } = counts;
-    let Channels {
-        end,
-        arrays: channel,
-    } = behind;
-    if !ends(s, end) {
+    let channel = channels.arrays;
+    if !ends(s, channels.end) {
         return Err(Refusal::Leftover);
     }
-    match faulty_node(&node.kind, &channel.reader, &channel.port, nodes, channels) {
-        Some(faulty) => Err(Refusal::Ports(faulty)),
+    match faulty_node(
+        &node.kind,
+        &channel.reader,
+        &channel.port,
+        counts.nodes,
+        counts.channels,
+    ) {
+        Some(n) => Err(Refusal::Ports(n)),
         None => Ok(Network {
-            nodes,
-            channels,
+            nodes: counts.nodes,
+            channels: counts.channels,
             node,
             channel,
         }),
@@ -279,8 +279,8 @@ fn read_rest(s: &[u8], counts: Counts, node: NodeArrays) -> Result<Network, Refu
     requires { (header_at s.now ≡ read (header_of counts)) × NodesDone s.now counts.nodes node }
     ensures { TableOf (network s.now) result }
 {
-    let behind = read_channels(s, counts.nodes, counts.channels)?;
-    read_end(s, counts, node, behind)
+    let channels = read_channels(s, counts.nodes, counts.channels)?;
+    read_end(s, counts, node, channels)
 }
 
 // The network that a table's bytes say, or the first refusal.

@@ -14,7 +14,7 @@ faulty_node-requires c =
 pub returns-in-Some : goal.returns-in-Some
 returns-in-Some c =
     let pre = c.requires in
-    refused_by_ports c.args.s.now pre.0 pre.1 pre.2 c.if-not-ends.ensures c.in-Some.faulty c.in-Some.ensures.0 c.in-Some.ensures.1
+    refused_by_ports c.args.s.now pre.0 pre.1 pre.2 c.if-not-ends.ensures c.in-Some.n c.in-Some.ensures.0 c.in-Some.ensures.1
 
 pub returns-in-None : goal.returns-in-None
 returns-in-None c =
