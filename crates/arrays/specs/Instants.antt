@@ -7,6 +7,8 @@ use Rattle.rules.specs.Kinds.{signed}
 use Rattle.rules.specs.Instant.{State, held_in, channel_in, after_writes, overfull, goes, instant}
 use Rattle.rules.proofs.Sound.{Sound}
 use Rattle.rules.proofs.Arrivals.{Faultless}
+use Rattle.layout.specs.declared.Plan.{Plan}
+use Rattle.layout.specs.declared.State as layout
 use Rattle.layout.specs.Views.{Shape, Wires, Ways, Cells, Pendings, nodes_of, channels_of, shape_of, wires_of, ways_of, cells_of, pendings_of, soons_of}
 use Rattle.rings.specs.Rings.{Rings, held_at}
 use Rattle.arrays.specs.Writes.{Climbs, arrival_at}
@@ -51,35 +53,35 @@ pub record Written (net : rules.Network) (arrivals : List ℕ) (s : Shape) (w : 
 
 -- ---- Of a plan and a state
 
-abbrev pub AbleIn : List ℕ → Type 0
+abbrev pub AbleIn : Plan → Type 0
 AbleIn p = Able (nodes_of p) (channels_of p) (wires_of p) (ways_of p)
 
-abbrev pub RingsIn : List ℕ → List ℕ → Type 0
+abbrev pub RingsIn : Plan → layout.State → Type 0
 RingsIn p s = Rings (shape_of p) (cells_of s)
 
 -- a state is whole: its rings are within their places, each field has its entries, and nodes that are not there are at rest
-pub record Whole (p s : List ℕ) : Type 0 where
+pub record Whole (p : Plan) (s : layout.State) : Type 0 where
   pub rings : RingsIn p s
   pub sized : Sized (pendings_of s)
   pub pairs : length (soons_of s) ≡ 16
   pub unused : Unused (nodes_of p) (pendings_of s)
 
 -- it is at instant t: each pair's earliest instant is kept, and none is past
-pub record Timely (p s : List ℕ) (t : ℕ) : Type 0 where
+pub record Timely (p : Plan) (s : layout.State) (t : ℕ) : Type 0 where
   pub early : t < 2 ^ 24
   pub paired : Paired (nodes_of p) (soons_of s) (pendings_of s)
   pub ahead : Ahead (nodes_of p) (pendings_of s) t
 
-abbrev pub BeforeIn : rules.Network → List ℕ → List ℕ → ℕ → ℕ → State → List ℕ → Type 0
+abbrev pub BeforeIn : rules.Network → List ℕ → Plan → ℕ → ℕ → State → layout.State → Type 0
 BeforeIn net arrivals p from t st s =
     Before net arrivals (shape_of p) (wires_of p) (ways_of p) from t st (cells_of s) (pendings_of s)
 
-abbrev pub WrittenIn : rules.Network → List ℕ → List ℕ → ℕ → ℕ → State → Cells → List ℕ → Type 0
+abbrev pub WrittenIn : rules.Network → List ℕ → Plan → ℕ → ℕ → State → Cells → layout.State → Type 0
 WrittenIn net arrivals p next t st x s =
     Written net arrivals (shape_of p) (wires_of p) (ways_of p) next t st x (pendings_of s) (cells_of s)
 
 -- an instant that goes on: its words are put behind the first `count` of the list, and the state z stands for the rules' next state
-pub record WentOn (net : rules.Network) (arrivals p : List ℕ) (t : ℕ) (st : State) (out : List ℕ) (count : ℕ) (after : List ℕ) (more next soon : ℕ) (z : List ℕ) : Type 0 where
+pub record WentOn (net : rules.Network) (arrivals : List ℕ) (p : Plan) (t : ℕ) (st : State) (out : List ℕ) (count : ℕ) (after : List ℕ) (more next soon : ℕ) (z : layout.State) : Type 0 where
   pub words : List ℕ
   pub state : State
   pub goes_on : instant net arrivals (length out - count) t st ≡ goes words state

@@ -1,8 +1,10 @@
--- The contracts of the public calls settle what the calls come to: each is an equation for the result, or has one among its clauses. `Learnt`
--- is what a caller learns from the contract in the source. Assumes nothing.
-use Rattle.std.proofs.Common.{refl}
+-- The contracts of the public calls settle what the calls come to: each is an equation for the result, or for what is said by it, which tells
+-- the results apart. `Learnt` is what a caller learns from the contract in the source. Assumes nothing.
+use Rattle.std.proofs.Common.{◌≡◌, refl, Option, None, Some}
+use Rattle.std.proofs.Math.Option as Math
 use mathlib.Core.Path.{◌∙⁻¹◌, Σ_path}
-use Rattle.rules.proofs.Settle.{Settled}
+use Rattle.rules.proofs.Settle.{Settled, Once, once_by, same}
+use Rattle.kinds.specs.Nodes.{said}
 use Rattle.kinds.specs.contracts as contracts
 use Rattle.kinds.proofs as calls
 
@@ -12,14 +14,21 @@ inputs κs args o p e f = Σ_path (e ∙⁻¹ f) refl
 pub takes : Settled contracts.Kind.takes.ended calls.Kind.takes.Reads.Learnt
 takes κs args o p e f = Σ_path (e ∙⁻¹ f) refl
 
-pub inputs_of : Settled contracts.inputs_of.ended calls.inputs_of.Reads.Learnt
-inputs_of κs args o p e f = Σ_path (e ∙⁻¹ f) refl
+-- the answer that the rules say so
+abbrev answered : {A : Type 0} → Math.Option A → Option A
+answered Math.none = None
+answered (Math.some x) = Some x
 
-pub result : Settled contracts.result.ended calls.result.Reads.Learnt
-result κs args o p e f = Σ_path (e.0 ∙⁻¹ f.0) refl
+-- so no two answers are said alike
+said_once : {A : Type 0} → Once (said {A = A})
+said_once = once_by answered found
+  where
+    found : {A : Type 0} (r : Option A) → answered (said r) ≡ r
+    found None = refl
+    found (Some x) = refl
 
-pub earlier : Settled contracts.earlier.ended calls.earlier.Reads.Learnt
-earlier κs args o p e f = Σ_path (e ∙⁻¹ f) refl
+pub result : Settled contracts.Kind.result.ended calls.Kind.result.Reads.Learnt
+result κs args o p e f = Σ_path (same said_once e f) refl
 
 pub written : Settled contracts.Pending.written.ended calls.Pending.written.Reads.Learnt
 written κs args o p e f = Σ_path (e ∙⁻¹ f) refl

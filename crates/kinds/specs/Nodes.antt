@@ -1,9 +1,8 @@
 -- A node's result and its state by the values of the code. Assumes nothing.
-use Rattle.std.specs.Prelude.{ℕ, ◌+◌, true, false, cond, ℤ, ◌==◌}
-use Rattle.std.proofs.Math.Option.{Option, none, some}
+use Rattle.std.specs.Prelude.{ℕ, ◌+◌, cond, ℤ, pos, ◌==◌, Option, Some, None}
+use Rattle.std.proofs.Math.Option as Math
 use Rattle.rules.specs.Kinds.{signed, pattern}
 use Rattle.rules.specs.Instant.{Waiting}
-use Rattle.kinds.specs.declared.Made.{Made}
 use Rattle.kinds.specs.declared.Pending.{Pending}
 
 -- the instant of what is never due
@@ -11,29 +10,33 @@ abbrev pub never : ℕ
 never = 4294967295
 
 -- what waits by a due instant and a value's bits
-abbrev pub waiting_by : ℕ → ℕ → Option Waiting
-waiting_by due value = cond (due == never) none (some (record { due = due; value = signed value }))
+abbrev pub waiting_by : ℕ → ℕ → Math.Option Waiting
+waiting_by due value = cond (due == never) Math.none (Math.some (record { due = due; value = signed value }))
 
--- a result by its value's bits
-abbrev pub made_says : Made → Option ℤ
-made_says r = cond r.present (some (signed r.value)) none
+-- an answer of the code, as the rules say it
+abbrev pub said : {A : Type 0} → Option A → Math.Option A
+said None = Math.none
+said (Some x) = Math.some x
 
-abbrev pub given : ℕ → Made
-given value = record { present = true; value = value }
+-- a node's state with its value by its bits
+pub record Seen : Type 0 where
+  pub next : ℕ
+  pub due : ℕ
+  pub value : ℕ
 
-abbrev pub absent : Made
-absent = record { present = false; value = 0 }
+abbrev pub seen : Pending → Seen
+seen p = record { next = p.next; due = p.due; value = pattern p.value }
 
--- the one way in which the code says a result
-abbrev pub made_of : Option ℤ → Made
-made_of none = absent
-made_of (some z) = given (pattern z)
+-- when a result is due, and what is kept of it: an absent one is never due, and 0 is kept
+abbrev pub due_by : ℕ → Option ℤ → ℕ
+due_by due None = never
+due_by due (Some value) = due
+
+abbrev pub value_of : Option ℤ → ℤ
+value_of None = pos 0
+value_of (Some value) = value
 
 -- a node's state after a release that goes ahead
-abbrev pub ahead_of : Pending → ℕ → ℕ → Made → Pending
+abbrev pub ahead_of : Pending → ℕ → ℕ → Option ℤ → Pending
 ahead_of before period deadline made =
-    record {
-      next = before.next + period;
-      due = cond made.present (before.next + deadline) never;
-      value = made.value;
-    }
+    record { next = before.next + period; due = due_by (before.next + deadline) made; value = value_of made }

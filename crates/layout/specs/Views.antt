@@ -1,11 +1,28 @@
--- What the plan and the state are seen as: each field a list of its own. Assumes nothing.
-use Rattle.std.specs.Prelude.{ℕ, ◌*◌, List, get_or, take, drop}
-use Rattle.layout.specs.Layout.{Cs, Ns, Ps, Ts, SORT, BASE, CAPACITY, WRITER, FOLLOW, OUTS, KIND, CONSTANT, PERIOD, DEADLINE, COUNT, FIRST, INPUT, NODES, CHANNELS, OUT}
-use Rattle.layout.specs.Layout.{HEAD, LEN, TOKENS, NEXT, DUE, VALUE, SOON}
+-- What the plan and the state are seen as. Kinds and sorts are seen by their numbers, tokens by their 32 bits. Assumes nothing.
+use Rattle.std.specs.Prelude.{ℕ, List, map}
+use Rattle.rules.specs.Kinds.{pattern}
+use Rattle.kinds.specs.Kind.{kind_number}
+use Rattle.layout.specs.declared.Sort.{Sort}
+use Rattle.layout.specs.declared.Plan.{Plan}
+use Rattle.layout.specs.declared.State.{State}
 
--- the n entries of a list from a place on
-unfoldable pub part : ℕ → ℕ → List ℕ → List ℕ
-part at n l = take n (drop at l)
+-- the number that stands for a sort in a table
+abbrev pub sort_number : Sort → ℕ
+sort_number Sort.Queue = 0
+sort_number Sort.Register = 1
+
+-- how many channels, nodes, pairs of nodes and tokens there is room for
+abbrev pub Cs : ℕ
+Cs = 64
+
+abbrev pub Ns : ℕ
+Ns = 32
+
+abbrev pub Ps : ℕ
+Ps = 16
+
+abbrev pub Ts : ℕ
+Ts = 1024
 
 -- ---- What stays
 
@@ -26,9 +43,9 @@ pub record Wires : Type 0 where
   pub period : List ℕ
   pub deadline : List ℕ
   pub count : List ℕ
-  pub input : List ℕ
+  pub input : List (List ℕ)
 
-abbrev pub wires : List ℕ → List ℕ → List ℕ → List ℕ → List ℕ → List ℕ → Wires
+abbrev pub wires : List ℕ → List ℕ → List ℕ → List ℕ → List ℕ → List (List ℕ) → Wires
 wires kind constant period deadline count input =
     record { kind = kind; constant = constant; period = period; deadline = deadline; count = count; input = input }
 
@@ -44,24 +61,27 @@ abbrev pub ways : List ℕ → List ℕ → List ℕ → ℕ → List ℕ → Wa
 ways writer first follow first_out follow_out =
     record { writer = writer; first = first; follow = follow; first_out = first_out; follow_out = follow_out }
 
-abbrev pub nodes_of : List ℕ → ℕ
-nodes_of p = get_or p NODES 0
+abbrev pub nodes_of : Plan → ℕ
+nodes_of p = p.nodes
 
-abbrev pub channels_of : List ℕ → ℕ
-channels_of p = get_or p CHANNELS 0
+abbrev pub channels_of : Plan → ℕ
+channels_of p = p.channels
 
-abbrev pub shape_of : List ℕ → Shape
-shape_of p = shape (channels_of p) (part SORT Cs p) (part BASE Cs p) (part CAPACITY Cs p)
+abbrev pub shape_of : Plan → Shape
+shape_of p = shape p.channels (map sort_number p.sort) p.base p.capacity
 
-abbrev pub input_of : List ℕ → List ℕ
-input_of p = part INPUT (4 * Ns) p
-
-abbrev pub wires_of : List ℕ → Wires
+abbrev pub wires_of : Plan → Wires
 wires_of p =
-    wires (part KIND Ns p) (part CONSTANT Ns p) (part PERIOD Ns p) (part DEADLINE Ns p) (part COUNT Ns p) (input_of p)
+    wires
+    (map (λ n. kind_number n.kind) p.node)
+    (map (λ n. pattern n.constant) p.node)
+    (map (λ n. n.period) p.node)
+    (map (λ n. n.deadline) p.node)
+    (map (λ n. n.count) p.node)
+    (map (λ n. n.input) p.node)
 
-abbrev pub ways_of : List ℕ → Ways
-ways_of p = ways (part WRITER Cs p) (part FIRST Ns p) (part FOLLOW Cs p) (get_or p OUT 0) (part OUTS Cs p)
+abbrev pub ways_of : Plan → Ways
+ways_of p = ways p.writer (map (λ n. n.first) p.node) p.follow p.out p.outs
 
 -- ---- What changes
 
@@ -83,15 +103,15 @@ pub record Pendings : Type 0 where
 abbrev pub pendings : List ℕ → List ℕ → List ℕ → Pendings
 pendings next due value = record { next = next; due = due; value = value }
 
-abbrev pub cells_of : List ℕ → Cells
-cells_of s = cells (part HEAD Cs s) (part LEN Cs s) (part TOKENS Ts s)
+abbrev pub cells_of : State → Cells
+cells_of s = cells (map (λ r. r.head) s.ring) (map (λ r. r.len) s.ring) (map pattern s.tokens)
 
-abbrev pub pendings_of : List ℕ → Pendings
-pendings_of s = pendings (part NEXT Ns s) (part DUE Ns s) (part VALUE Ns s)
+abbrev pub pendings_of : State → Pendings
+pendings_of s = pendings s.next s.due (map pattern s.value)
 
-abbrev pub soons_of : List ℕ → List ℕ
-soons_of s = part SOON Ps s
+abbrev pub soons_of : State → List ℕ
+soons_of s = s.soon
 
--- all that the state holds of the nodes, which stands behind the channels' fields
-unfoldable pub nodes_from : List ℕ → List ℕ
-nodes_from s = drop NEXT s
+-- all that the state holds of the nodes
+abbrev pub nodes_from : State → Pendings × List ℕ
+nodes_from s = (pendings_of s, soons_of s)

@@ -4,7 +4,5 @@ pub mod WroteLaws
 pub mod PutLaws
 pub mod TookLaws
 pub mod TakeLaws
-pub mod Places
-pub mod Outcomes
 pub mod AccessLaws
 pub mod Settled

@@ -1,9 +1,8 @@
 // A word, an arrival or an output: its channel, its time and its value.
 #![tactic(auto)]
 
-ghost use Rattle.std.specs.Prelude.{◌≡◌, ◌%◌, ◌^◌, ◌<◌};
-ghost use Rattle.rules.specs.Kinds.{signed};
-ghost use Rattle.rules.specs.Instant.{word, channel_in, time_in};
+ghost use Rattle.std.specs.Prelude.{◌≡◌, ◌^◌, ◌<◌};
+ghost use Rattle.rules.specs.Instant.{word, channel_in, time_in, value_in};
 
 pub fn channel_in(w: u64) -> usize
     ensures { result ≡ channel_in w }
@@ -17,19 +16,17 @@ pub fn time_in(w: u64) -> u32
     (w / 0x1_0000_0000 % 0x100_0000) as u32
 }
 
-// The 32 bits of the value in a word.
-pub fn value_in(w: u64) -> u32
-    ensures { result ≡ w % 2 ^ 32 }
+pub fn value_in(w: u64) -> i32
+    ensures { result ≡ value_in w }
 {
-    (w % 0x1_0000_0000) as u32
+    ((w % 0x1_0000_0000) as u32).cast_signed()
 }
 
-// A word, with the value by its 32 bits.
-pub fn word(channel: usize, time: u32, value: u32) -> u64
+pub fn word(channel: usize, time: u32, value: i32) -> u64
     requires { (channel < 256) × (time < 2 ^ 24) }
-    ensures { result ≡ word channel time (signed value) }
+    ensures { result ≡ word channel time value }
 {
-    (channel as u64) * 0x100_0000_0000_0000
-        + fields::wide64(time) * 0x1_0000_0000
-        + fields::wide64(value)
+    channel as u64 * 0x100_0000_0000_0000
+        + u64::from(time) * 0x1_0000_0000
+        + u64::from(value.cast_unsigned())
 }
