@@ -11,10 +11,10 @@ wide κs args o p e f = Σ_path (e ∙⁻¹ f) refl
 pub wide64 : Settled contracts.wide64.ended calls.wide64.Reads.Learnt
 wide64 κs args o p e f = Σ_path (e ∙⁻¹ f) refl
 
-pub there : Settled contracts.there.ended calls.there.Reads.Learnt
-there κs args o p e f = Σ_path (e ∙⁻¹ f) refl
+pub holds : Settled contracts.Reader.holds.ended calls.Reader.holds.Reads.Learnt
+holds κs args o p e f = Σ_path (e ∙⁻¹ f) refl
 
-pub field : Settled contracts.field.ended calls.field.Reads.Learnt
+pub field : Settled contracts.Reader.field.ended calls.Reader.field.Reads.Learnt
 field κs args o p e f = Σ_path (e ∙⁻¹ f) refl
 
 pub signed : Settled contracts.signed.ended calls.signed.Reads.Learnt

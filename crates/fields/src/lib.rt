@@ -29,13 +29,6 @@ fn bit(s: &[u8], i: usize, k: usize) -> u32
     (u32::from(s[i]) >> (7 - k)) % 2
 }
 
-// Whether the `width` bits that start at bit `at` are all there.
-pub fn there(s: &[u8], at: usize, width: usize) -> bool
-    ensures { result ≡ leb (at + width) (8 * length s.now) }
-{
-    at / 8 + width / 8 + (at % 8 + width % 8 + 7) / 8 <= s.len()
-}
-
 // The number that the `width` bits from bit `at` on make.
 fn value_at(s: &[u8], at: usize, width: usize) -> u32
     requires { (width ≤ 32) × (at + width ≤ 8 * length s.now) }
@@ -73,6 +66,13 @@ impl<'a> Reader<'a> {
         }
     }
 
+    // Whether the `width` bits from where the reader stands are all there.
+    pub fn holds(self, width: usize) -> bool
+        ensures { result ≡ leb (self.entry.at + width) (8 * length self.entry.bytes.now) }
+    {
+        self.at / 8 + width / 8 + (self.at % 8 + width % 8 + 7) / 8 <= self.bytes.len()
+    }
+
     // The field of `width` bits where the reader stands, where the bits do not end before. A field of more than 32 bits is never there.
     pub fn take(self, width: usize) -> Option<u32>
         ensures { result ≡ field_or_end self.entry.bytes.now self.entry.at width }
@@ -80,19 +80,19 @@ impl<'a> Reader<'a> {
         if 32 < width {
             return None;
         }
-        if there(self.bytes, self.at, width) {
+        if self.holds(width) {
             return Some(value_at(self.bytes, self.at, width));
         }
         None
     }
-}
 
-// The field of `width` bits that starts at bit `at`: a reader is made, moved on and taken from.
-pub fn field(s: &[u8], at: usize, width: usize) -> u32
-    requires { (width ≤ 32) × (at + width ≤ 8 * length s.now) }
-    ensures { result ≡ field_at s.now at width }
-{
-    Reader::new(s).moved(at).take(width).unwrap()
+    // The field of `width` bits that starts so many bits ahead, which has to be there.
+    pub fn field(self, ahead: usize, width: usize) -> u32
+        requires { (width ≤ 32) × (self.at + ahead + width ≤ 8 * length self.bytes.now) × (self.at + ahead < 2 ^ 64) }
+        ensures { result ≡ field_at self.entry.bytes.now (self.entry.at + ahead) width }
+    {
+        self.moved(self.at + ahead).take(width).unwrap()
+    }
 }
 
 // The token that 32 bits stand for, in two's complement.

@@ -1,5 +1,5 @@
 -- An entry of a field as it is seen, and a store in one. Assumes nothing.
-use Rattle.std.proofs.Common.{◌≡◌, ℕ, ◌<◌, List, [], ◌∷◌, map, length, get_or, set, refl, ap, sym, ◌∙◌, zero, suc}
+use Rattle.std.proofs.Common.{◌≡◌, ℕ, List, [], ◌∷◌, map, get_or, set, refl, ap, zero, suc}
 
 module _ {A B : Type 0} (f : A → B) where
   -- an entry, where what stands for none is seen as what stands for none

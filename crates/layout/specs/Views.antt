@@ -71,10 +71,17 @@ abbrev pub shape_of : Plan → Shape
 shape_of p = shape p.channels (map sort_number p.sort) p.base p.capacity
 
 abbrev pub wires_of : Plan → Wires
-wires_of p = wires (map kind_number p.kind) (map pattern p.constant) p.period p.deadline p.count p.input
+wires_of p =
+    wires
+    (map (λ n. kind_number n.kind) p.node)
+    (map (λ n. pattern n.constant) p.node)
+    (map (λ n. n.period) p.node)
+    (map (λ n. n.deadline) p.node)
+    (map (λ n. n.count) p.node)
+    (map (λ n. n.input) p.node)
 
 abbrev pub ways_of : Plan → Ways
-ways_of p = ways p.writer p.first p.follow p.out p.outs
+ways_of p = ways p.writer (map (λ n. n.first) p.node) p.follow p.out p.outs
 
 -- ---- What changes
 
@@ -97,7 +104,7 @@ abbrev pub pendings : List ℕ → List ℕ → List ℕ → Pendings
 pendings next due value = record { next = next; due = due; value = value }
 
 abbrev pub cells_of : State → Cells
-cells_of s = cells s.head s.len (map pattern s.tokens)
+cells_of s = cells (map (λ r. r.head) s.ring) (map (λ r. r.len) s.ring) (map pattern s.tokens)
 
 abbrev pub pendings_of : State → Pendings
 pendings_of s = pendings s.next s.due (map pattern s.value)

@@ -1,5 +1,6 @@
-// What a run keeps: the plan, which stays over all of it, and the state, which changes. Each field is an array of its own, with an entry for each
-// channel, node or pair of nodes: with a struct for each channel and node an activation takes more instructions than its bar (docs/DESIGN-PASS.md).
+// What a run keeps: the plan, which stays over all of it, and the state, which changes. A channel's fields of the plan and a node's of the state are
+// arrays of their own: with a struct for each channel, or for what a node has waiting, an activation takes more instructions than its bar allows
+// (docs/DESIGN-PASS.md).
 #![tactic(auto)]
 
 use kinds::Kind;
@@ -14,6 +15,18 @@ pub enum Sort {
     Register,
 }
 
+// What stays of a node: its record, how many inputs it has, the first channel of its walk, and the channels at its four ports.
+#[derive(Clone, Copy, Debug, PartialEq, Eq)]
+pub struct Station {
+    pub kind: Kind,
+    pub constant: i32,
+    pub period: u32,
+    pub deadline: u32,
+    pub count: u32,
+    pub first: u32,
+    pub input: [u32; 4],
+}
+
 // What stays over a run.
 #[derive(Clone, Copy)]
 pub struct Plan {
@@ -21,6 +34,7 @@ pub struct Plan {
     pub nodes: u32,
     pub channels: u32,
     pub out: u32,
+    pub node: [Station; 32],
     // Of each channel: its sort, the first place and the number of places of its ring, its writer, the channel behind it in its writer's walk,
     // and the channel behind it in the walk of those to the outside.
     pub sort: [Sort; 64],
@@ -29,22 +43,20 @@ pub struct Plan {
     pub writer: [u32; 64],
     pub follow: [u32; 64],
     pub outs: [u32; 64],
-    // Of each node: its record, how many inputs it has, the first channel of its walk, and the channels at its four ports.
-    pub kind: [Kind; 32],
-    pub constant: [i32; 32],
-    pub period: [u32; 32],
-    pub deadline: [u32; 32],
-    pub count: [u32; 32],
-    pub first: [u32; 32],
-    pub input: [[u32; 4]; 32],
+}
+
+// Of a channel's ring, the place of its oldest token, counted from the ring's first, and how many it holds.
+#[derive(Clone, Copy, Debug, PartialEq, Eq)]
+pub struct Ring {
+    pub head: u32,
+    pub len: u32,
 }
 
 // What changes over a run.
 #[derive(Clone, Copy)]
 pub struct State {
-    // Of each channel: the place of its oldest token and how many it holds; and the tokens of all rings.
-    pub head: [u32; 64],
-    pub len: [u32; 64],
+    pub ring: [Ring; 64],
+    // The tokens of all rings.
     pub tokens: [i32; 1024],
     // Of each node: its next release, when its waiting result is due, and the result; and of each pair of nodes the earliest of these instants.
     pub next: [u32; 32],

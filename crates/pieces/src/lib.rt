@@ -6,6 +6,7 @@ ghost use Rattle.rules.specs.Network.{counts_ok, node_ok, end_ok, channel_ok};
 ghost use Rattle.rules.specs.Table.{header_at, node_at, node_piece, channel_at, channel_piece};
 ghost use Rattle.pieces.specs.Says.{says, says_by, header_of};
 
+use fields::Reader;
 use kinds::Kind;
 use rules::{Channel, Counts, Node, Refusal};
 
@@ -22,15 +23,16 @@ fn counts_ok(nodes: usize, channels: usize) -> bool
 pub fn read_header(s: &[u8]) -> Result<Counts, Refusal>
     ensures { says_by header_of result ≡ header_at s.now }
 {
-    if !fields::there(s, 0, 24) {
+    let bits = Reader::new(s);
+    if !bits.holds(24) {
         return Err(Refusal::BitsEnd(0));
     }
-    if fields::field(s, 0, 4) != 1 {
+    if bits.field(0, 4) != 1 {
         return Err(Refusal::Version);
     }
-    let nodes = fields::field(s, 4, 6) as usize;
-    let channels = fields::field(s, 10, 7) as usize;
-    let spare = fields::field(s, 17, 7);
+    let nodes = bits.field(4, 6) as usize;
+    let channels = bits.field(10, 7) as usize;
+    let spare = bits.field(17, 7);
     if counts_ok(nodes, channels) & (spare == 0) {
         return Ok(Counts { nodes, channels });
     }
@@ -52,19 +54,15 @@ fn node_ok(n: Node) -> bool
 }
 
 #[tactic(auto, unfolding(rules::specs::Table::node_at))]
-fn node_at(s: &[u8], at: usize) -> Node
-    requires { (at + 69 ≤ 8 * length s.now) × (at < 65536) }
-    ensures { result ≡ node_at s.now at }
+fn node_at(bits: Reader<'_>) -> Node
+    requires { (bits.at + 69 ≤ 8 * length bits.bytes.now) × (bits.at < 65536) }
+    ensures { result ≡ node_at bits.entry.bytes.now bits.entry.at }
 {
-    let kind = fields::field(s, at, 5);
-    let period = fields::field(s, at + 5, 16);
-    let deadline = fields::field(s, at + 21, 16);
-    let constant = fields::signed(fields::field(s, at + 37, 32));
     Node {
-        kind,
-        period,
-        deadline,
-        constant,
+        kind: bits.field(0, 5),
+        period: bits.field(5, 16),
+        deadline: bits.field(21, 16),
+        constant: fields::signed(bits.field(37, 32)),
     }
 }
 
@@ -73,11 +71,11 @@ pub fn node_piece(s: &[u8], n: usize) -> Result<Node, Refusal>
     requires { n < 32 }
     ensures { says result ≡ node_piece s.now n }
 {
-    let at = 24 + 69 * n;
-    if !fields::there(s, at, 69) {
-        return Err(Refusal::BitsEnd(at));
+    let bits = Reader::new(s).moved(24 + 69 * n);
+    if !bits.holds(69) {
+        return Err(Refusal::BitsEnd(bits.at));
     }
-    let node = node_at(s, at);
+    let node = node_at(bits);
     if node_ok(node) {
         return Ok(node);
     }
@@ -107,42 +105,35 @@ fn channel_ok(nodes: usize, ch: Channel) -> bool
 }
 
 #[tactic(auto, unfolding(rules::specs::Table::channel_at))]
-fn channel_at(s: &[u8], at: usize) -> Channel
-    requires { (at + 29 ≤ 8 * length s.now) × (at < 65536) }
-    ensures { result ≡ channel_at s.now at }
+fn channel_at(bits: Reader<'_>) -> Channel
+    requires { (bits.at + 29 ≤ 8 * length bits.bytes.now) × (bits.at < 65536) }
+    ensures { result ≡ channel_at bits.entry.bytes.now bits.entry.at }
 {
-    let sort = fields::field(s, at, 1);
-    let writer = fields::field(s, at + 1, 6);
-    let reader = fields::field(s, at + 7, 6);
-    let port = fields::field(s, at + 13, 2);
-    let capacity = fields::field(s, at + 15, 7);
-    let initial = fields::field(s, at + 22, 7);
     Channel {
-        sort,
-        writer,
-        reader,
-        port,
-        capacity,
-        initial,
+        sort: bits.field(0, 1),
+        writer: bits.field(1, 6),
+        reader: bits.field(7, 6),
+        port: bits.field(13, 2),
+        capacity: bits.field(15, 7),
+        initial: bits.field(22, 7),
     }
 }
 
-// Channel `c`, which stands at bit `at` behind channels whose capacities together are `together`.
+// Channel `c`, where the reader stands, behind channels whose capacities together are `together`.
 #[tactic(auto, unfolding(rules::specs::Table::channel_piece))]
 pub fn channel_piece(
-    s: &[u8],
+    bits: Reader<'_>,
     nodes: usize,
     c: usize,
-    at: usize,
     together: usize,
 ) -> Result<Channel, Refusal>
-    requires { (at < 65536) × (together ≤ 1024) }
-    ensures { says result ≡ channel_piece s.now nodes c at together }
+    requires { (bits.at < 65536) × (together ≤ 1024) }
+    ensures { says result ≡ channel_piece bits.entry.bytes.now nodes c bits.entry.at together }
 {
-    if !fields::there(s, at, 29) {
-        return Err(Refusal::BitsEnd(at));
+    if !bits.holds(29) {
+        return Err(Refusal::BitsEnd(bits.at));
     }
-    let ch = channel_at(s, at);
+    let ch = channel_at(bits);
     if !channel_ok(nodes, ch) {
         return Err(Refusal::ChannelField(c));
     }

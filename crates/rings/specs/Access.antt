@@ -2,24 +2,32 @@
 -- Assumes nothing.
 use Rattle.std.specs.Prelude.{ℕ, ◌+◌, ◌-◌, min, Bool, cond, not, ◌&&◌, ◌≡◌, eqb, ltb, ℤ, pos, get_or, set}
 use Rattle.layout.specs.declared.Plan.{Plan}
+use Rattle.layout.specs.declared.Ring.{Ring}
 use Rattle.layout.specs.declared.State.{State}
 use Rattle.layout.specs.Views.{shape_of, cells_of, nodes_from}
 use Rattle.rings.specs.Rings.{wrapped, base_of, capacity_of, register_at, held_at, Wrote, Took, to_each, oldest_of}
 
+-- what the state has of channel c's ring
+abbrev pub ring_of : State → ℕ → Ring
+ring_of s c = get_or s.ring c (record { head = 0; len = 0 })
+
 abbrev pub has_room_in : Plan → State → ℕ → Bool
-has_room_in p s c = ltb (get_or s.len c 0) (capacity_of (shape_of p) c)
+has_room_in p s c = ltb (ring_of s c).len (capacity_of (shape_of p) c)
 
 -- the place behind the last token of channel c
 abbrev pub behind_in : Plan → State → ℕ → ℕ
 behind_in p s c =
-    base_of (shape_of p) c + wrapped (capacity_of (shape_of p) c) (get_or s.head c 0 + get_or s.len c 0)
+    base_of (shape_of p) c + wrapped (capacity_of (shape_of p) c) ((ring_of s c).head + (ring_of s c).len)
 
 -- a token is written to channel c: a register keeps it, a queue appends it where it has room
 unfoldable pub put_in : Plan → State → ℕ → ℤ → State
 put_in p s c v =
     cond (register_at (shape_of p) c) (record s { tokens = set s.tokens (base_of (shape_of p) c) v })
     (cond (has_room_in p s c)
-    (record s { tokens = set s.tokens (behind_in p s c) v; len = set s.len c (get_or s.len c 0 + 1) })
+    (record s {
+      ring = set s.ring c (record { head = (ring_of s c).head; len = (ring_of s c).len + 1 });
+      tokens = set s.tokens (behind_in p s c) v;
+    })
     s)
 
 -- the lower of `full` and a channel without room
@@ -28,15 +36,18 @@ full_by p s c full = cond (register_at (shape_of p) c) full (cond (has_room_in p
 
 -- the oldest token of channel c, or what a register holds
 unfoldable pub oldest_in : Plan → State → ℕ → ℤ
-oldest_in p s c = get_or s.tokens (base_of (shape_of p) c + get_or s.head c 0) (pos 0)
+oldest_in p s c = get_or s.tokens (base_of (shape_of p) c + (ring_of s c).head) (pos 0)
 
 -- it is taken, if the channel is a queue
 unfoldable pub taken_in : Plan → State → ℕ → State
 taken_in p s c =
     cond (register_at (shape_of p) c) s
     (record s {
-      head = set s.head c (wrapped (capacity_of (shape_of p) c) (get_or s.head c 0 + 1));
-      len = set s.len c (get_or s.len c 0 - 1);
+      ring = set s.ring c
+          (record {
+            head = wrapped (capacity_of (shape_of p) c) ((ring_of s c).head + 1);
+            len = (ring_of s c).len - 1;
+          });
     })
 
 -- ---- What that means

@@ -6,3 +6,4 @@ pub mod Instant
 pub mod Refusals
 pub mod Listing
 pub mod Bench
+pub mod Shown

@@ -1,8 +1,9 @@
 // The types that code and definitions share. The rules themselves are in specs/, a file for each section of document 01.
 #![tactic(auto)]
 
-ghost use Rattle.std.specs.Prelude.{◌≡◌};
+ghost use Rattle.std.specs.Prelude.{◌≡◌, Some};
 ghost use Rattle.rules.specs.Refusals.{number_of, place_of, end_number, end_instant, end_channel};
+ghost use Rattle.rules.specs.Shown.{refusal_text, counts_text, ran_text};
 
 use std::error::Error;
 use std::fmt;
@@ -78,6 +79,8 @@ impl Refusal {
 }
 
 impl fmt::Display for Refusal {
+    ghost output = { λ why. Some (refusal_text why) };
+
     fn fmt<W: fmt::Write>(&self, f: &mut fmt::Formatter<W>) -> fmt::Result {
         let number = self.number();
         let place = self.place();
@@ -95,6 +98,8 @@ pub struct Counts {
 }
 
 impl fmt::Display for Counts {
+    ghost output = { λ counts. Some (counts_text counts) };
+
     fn fmt<W: fmt::Write>(&self, f: &mut fmt::Formatter<W>) -> fmt::Result {
         let nodes = self.nodes;
         let channels = self.channels;
@@ -151,6 +156,8 @@ pub struct Ran {
 }
 
 impl fmt::Display for Ran {
+    ghost output = { λ ran. Some (ran_text ran) };
+
     fn fmt<W: fmt::Write>(&self, f: &mut fmt::Formatter<W>) -> fmt::Result {
         let count = self.count;
         let number = self.end.number();
