@@ -1,2 +1,3 @@
 pub mod Inputs
 pub mod StepOnce
+pub mod Stations

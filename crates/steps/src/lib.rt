@@ -40,7 +40,7 @@ fn write_pair(plan: &Plan, state: &mut State, t: u32, pair: usize, before: usize
     for n in 2 * pair..2 * pair + 2 {
         if state.due[n] == t {
             let v = state.value[n];
-            full = put_all(plan, state, plan.first[n], v, full);
+            full = put_all(plan, state, plan.node[n].first, v, full);
         }
     }
     full
@@ -127,7 +127,7 @@ fn port(plan: &Plan, n: usize, p: usize) -> usize
     requires { (n < 32) × (p < 4) }
     ensures { result ≡ port_of (wires_of plan.now).input n p }
 {
-    plan.input[n][p] as usize
+    plan.node[n].input[p] as usize
 }
 
 // Whether the channel at port `p` of node `n` holds a token.
@@ -135,7 +135,7 @@ fn holds(plan: &Plan, state: &State, n: usize, p: usize) -> bool
     requires { (n < 32) × (p < 4) × (port_of (wires_of plan.now).input n p < 64) }
     ensures { result ≡ not (eqb (get_or (cells_of state.now).len (port_of (wires_of plan.now).input n p) 0) 0) }
 {
-    state.len[port(plan, n, p)] != 0
+    state.ring[port(plan, n, p)].len != 0
 }
 
 // The tokens of a node with `N` inputs, taken, if every one of its ports holds one.
@@ -180,14 +180,14 @@ fn release(plan: &Plan, state: &mut State, before: Pending, n: usize) -> Pending
     ensures released { Released (wires_of plan.now) (shape_of plan.now) (cells_of state.old) n (seen before) (cells_of state.new) (seen result) }
     ensures nodes { nodes_from state.new ≡ nodes_from state.old }
 {
-    let period = plan.period[n];
-    match take_inputs(plan, state, n, plan.count[n]) {
+    let node = plan.node[n];
+    match take_inputs(plan, state, n, node.count) {
         Some(tokens) => {
             let [a, b, c] = tokens;
-            let made = plan.kind[n].result(plan.constant[n], a, b, c);
-            before.ahead(period, plan.deadline[n], made)
+            let made = node.kind.result(node.constant, a, b, c);
+            before.ahead(node.period, node.deadline, made)
         }
-        None => before.skipped(period),
+        None => before.skipped(node.period),
     }
 }
 
