@@ -1,1 +1,3 @@
 pub mod SetupLaws
+pub mod NextLaws
+pub mod WalkDownLaws
