@@ -1,13 +1,15 @@
 -- The inputs of a node on a plan and a state: whether its ports hold tokens, by the number of its inputs, and the takes at its ports one after
 -- another. Assumes nothing.
 use Prim.Native.Nat.{ℕ, suc, ◌≤◌, ◌<◌}
-use native.Mathlib.Omega.{arith}
 use mathlib.Core.Bool.{Bool, true, not, ◌&&◌}
 use mathlib.Core.List.{List}
 use mathlib.Core.Path.{◌≡◌, refl, sym, ◌∙◌}
 use lib.Dec.{eqb}
 use lib.ListN.{get_or}
+use Rattle.rules.specs.Kinds.{pattern}
 use Rattle.rules.specs.Lists.{every}
+use Rattle.layout.specs.declared.Plan.{Plan}
+use Rattle.layout.specs.declared.State.{State}
 use Rattle.layout.specs.Views.{Shape, Cells, channels_of, shape_of, wires_of, cells_of, nodes_from}
 use Rattle.rings.specs.Rings.{Took}
 use Rattle.rings.specs.Access.{taken_in, oldest_in}
@@ -18,10 +20,10 @@ use Rattle.arrays.proofs.TakenPorts.{lengths_hold, took_at_port, found_there}
 use Rattle.arrays.proofs.PortsInTurn.{queue_below, no_port_yet, port_found, port_holds, next_port, all_ports}
 
 -- the channel at port p holds a token, by its ring's length
-abbrev pub holds_at : Cells → List ℕ → ℕ → ℕ → Bool
+abbrev pub holds_at : Cells → List (List ℕ) → ℕ → ℕ → Bool
 holds_at x input n p = not (eqb (get_or x.len (port_of input n p) 0) 0)
 
-module _ (s : Shape) (x : Cells) (input : List ℕ) (n : ℕ) where
+module _ (s : Shape) (x : Cells) (input : List (List ℕ)) (n : ℕ) where
   pub hold_one : all_hold s x input n 1 ≡ holds_at x input n 0
   unfolding every
   hold_one = sym (lengths_hold s x input n 1)
@@ -34,26 +36,22 @@ module _ (s : Shape) (x : Cells) (input : List ℕ) (n : ℕ) where
   unfolding every
   hold_three = sym (lengths_hold s x input n 3)
 
--- a port leads to one of 64 channels
-pub port_below : (p s : List ℕ) (n count : ℕ) → Ported (channels_of p) (wires_of p).input n count → RingsIn p s → (k : ℕ) → k < count → port_of (wires_of p).input n k < 64
-port_below p s n count ported rings k below = omega (arith, ported.there k below, rings.placed.few)
-
 -- the first k of a node's ports are taken, and no node is touched
-pub record TakenTo (p s : List ℕ) (n count k : ℕ) (z : List ℕ) : Type 0 where
+pub record TakenTo (p : Plan) (s : State) (n count k : ℕ) (z : State) : Type 0 where
   pub took : Took (shape_of p) (cells_of s) (queue_below (shape_of p) (wires_of p).input n count k) (cells_of z)
   pub nodes : nodes_from z ≡ nodes_from s
 
 -- what a take at port k asks for
-pub record CanTake (p z : List ℕ) (n k : ℕ) : Type 0 where
+pub record CanTake (p : Plan) (z : State) (n k : ℕ) : Type 0 where
   pub rings : RingsIn p z
   pub there : port_of (wires_of p).input n k < channels_of p
   pub some : 1 ≤ get_or (cells_of z).len (port_of (wires_of p).input n k) 0
 
-module _ (p s : List ℕ) (n count : ℕ) (ported : Ported (channels_of p) (wires_of p).input n count) where
+module _ (p : Plan) (s : State) (n count : ℕ) (ported : Ported (channels_of p) (wires_of p).input n count) where
   pub taken_none : RingsIn p s → TakenTo p s n count 0 s
   taken_none rings = record { took = no_port_yet (shape_of p) (wires_of p).input n count (cells_of s) rings; nodes = refl }
 
-  module _ (holds : all_hold (shape_of p) (cells_of s) (wires_of p).input n count ≡ true) {k : ℕ} (z : List ℕ) (before : TakenTo p s n count k z) where
+  module _ (holds : all_hold (shape_of p) (cells_of s) (wires_of p).input n count ≡ true) {k : ℕ} (z : State) (before : TakenTo p s n count k z) where
     pub can_take : k < count → CanTake p z n k
     can_take below =
         record {
@@ -72,13 +70,13 @@ module _ (p s : List ℕ) (n count : ℕ) (ported : Ported (channels_of p) (wire
           nodes = done.nodes ∙ before.nodes;
         }
 
-    pub found_next : k < count → oldest_in p z (port_of (wires_of p).input n k) ≡ found (shape_of p) (cells_of s) (wires_of p).input n count k
+    pub found_next : k < count → pattern (oldest_in p z (port_of (wires_of p).input n k)) ≡ found (shape_of p) (cells_of s) (wires_of p).input n count k
     found_next below =
         let can = can_take below in
         (take_took p z (port_of (wires_of p).input n k) can.rings can.there can.some).oldest
         ∙ found_there (shape_of p) (cells_of z) (wires_of p).input n count k below
         ∙ port_found (shape_of p) (wires_of p).input n count ported (cells_of s) (cells_of z) k before.took
 
-  pub taken_all : (z : List ℕ) → all_hold (shape_of p) (cells_of s) (wires_of p).input n count ≡ true → TakenTo p s n count count z
+  pub taken_all : (z : State) → all_hold (shape_of p) (cells_of s) (wires_of p).input n count ≡ true → TakenTo p s n count count z
       → Took (shape_of p) (cells_of s) (taken_at (shape_of p) (cells_of s) (wires_of p).input n count) (cells_of z)
   taken_all z holds before = all_ports (shape_of p) (wires_of p).input n count ported (cells_of s) (cells_of z) holds before.took

@@ -1,14 +1,13 @@
 -- What a ring keeps of old and new tokens is what the channel keeps by the rules, and it has no room exactly where the channel is overfull.
 -- Assumes nothing.
 use Prim.Native.Nat.{ℕ}
-use native.Mathlib.Omega.{arith}
 use mathlib.Core.Bool.{true, false, not, ◌&&◌}
 use mathlib.Core.List.{List, [], ◌∷◌, ◌++◌, map}
 use mathlib.Core.Path.{◌≡◌, refl}
 use lib.Dec.{ltb}
 use lib.IntN.{ℤ}
-use lib.ListN.{length, get_or, take, length-map}
-use lib.Seq.{take_all}
+use lib.ListN.{length, get_or, length-map}
+use lib.Seq.{take_all, take-nil}
 use borrow.Author.Tests.{ltb-false}
 use Rattle.rules.specs.declared.Channel.{Channel}
 use Rattle.rules.specs.Lists.{last_of}
@@ -24,9 +23,6 @@ unfolding last_of
 last_map f [] = refl
 last_map f (x ∷ []) = refl
 last_map f (x ∷ y ∷ ys) = last_map f (y ∷ ys)
-
-none_taken : (n : ℕ) → take {A = ℕ} n [] ≡ []
-none_taken n = take_all n [] (omega arith)
 
 -- channel c of the rings is this channel; old and new tokens together are those of the rules, none for a channel to the outside
 pub record SameTokens (s : Shape) (c : ℕ) (ch : Channel) (old new : List ℕ) (held written : List ℤ) : Type 0 where
@@ -49,7 +45,7 @@ module _ {s : Shape} {c : ℕ} {ch : Channel} {old new : List ℕ} {held written
   unfolding over keeping kept last_of
   kept_by_rules room =
       by_test (is_out ch)
-      (λ e. rw (e, same.out e) (by_test (register_at s c) (λ r. rw r) (λ r. rw (r, none_taken))))
+      (λ e. rw (e, same.out e) (by_test (register_at s c) (λ r. rw r) (λ r. rw (r, take-nil))))
       (λ e.
       by_test (is_register ch)
       (λ r. rw (same.sort, e, r, same.inner e) (last_map signed (old ++ new)))

@@ -1,4 +1,3 @@
-pub mod EqualTurned
 pub mod WalkLaws
 pub mod Dues
 pub mod Stamps

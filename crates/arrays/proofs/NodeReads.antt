@@ -9,6 +9,7 @@ use lib.Dec.{eqb, ltb}
 use lib.IntN.{ℤ}
 use lib.ListN.{length, get_or-eq_default}
 use borrow.Author.Tests.{ltb-true, eqb-true, eq-eqb}
+use Rattle.std.proofs.lemmas.Bool.Decides.{same_from_decides}
 use Rattle.rules.specs.Lists.{every, lowest, is_empty}
 use Rattle.rules.specs.Kinds.{signed, inputs}
 use Rattle.rules.specs.Network.{Network, Obeys, node_of, channel_of, is_register, serves}
@@ -21,12 +22,6 @@ use Rattle.arrays.specs.Nodes.{inputs_at, result_at}
 use Rattle.arrays.specs.Represents.{Wired}
 use Rattle.arrays.proofs.PortLaws.{port_there, port_read, no_port, read_in, read_at}
 use Rattle.rules.proofs.Agreeing.{every_fails}
-
--- tests that pass together are the same
-same_test : (a b : Bool) → (a ≡ true → b ≡ true) → (b ≡ true → a ≡ true) → a ≡ b
-same_test true b to from = sym (to refl)
-same_test false true to from = from refl
-same_test false false to from = refl
 
 -- tokens and their bits
 empty_signed : (l : List ℕ) → is_empty (map signed l) ≡ is_empty l
@@ -79,28 +74,30 @@ module _ (net : Network) (s : Shape) (w : Wires) (v : Ways) (obeys : Obeys net) 
         let has : ℕ → Bool = λ c. not (eqb (channel_of net c).reader n) || (is_register (channel_of net c) || not (is_empty (held_in held c))) in
         let full : ℕ → Bool = λ p. not (is_empty (held_at s z (port_of w.input n p))) in
         rw inputs_same
-        (same_test (every channels has) (every count full)
-        (λ e.
-        every_all count full
-        (λ p h.
-        let c = lowest channels (serves net n p) in
-        let there = port_there net obeys n below p h in
-        let fine = rw (port_read net obeys n below p h) at (every_at channels has e c there) in
-        rw (wired.ports n below p h)
-        (by_test (is_register (channel_of net c))
-        (λ r. rw (register_holds s z c rings (rw wired.channels there) (rw (wired.sort c there) r)))
-        (λ r. rw (r, holds c there, empty_signed (held_at s z c)) at fine))))
-        (λ e.
-        every_all channels has
-        (λ c there.
-        by_test (eqb (channel_of net c).reader n)
-        (λ f.
-        let port = (channel_of net c).port in
-        let within = read_in net obeys n below c there f in
-        let its : port_of w.input n port ≡ c = wired.ports n below port within ∙ read_at net obeys n below c there f in
-        let fine : not (is_empty (held_at s z c)) ≡ true = rw its at (every_at count full e port within) in
-        rw (f, holds c there, empty_signed (held_at s z c), fine) (or-true (is_register (channel_of net c))))
-        (λ f. rw f))))
+        (same_from_decides (every channels has) (every count full) (
+          (λ e.
+              every_all count full
+              (λ p h.
+              let c = lowest channels (serves net n p) in
+              let there = port_there net obeys n below p h in
+              let fine = rw (port_read net obeys n below p h) at (every_at channels has e c there) in
+              rw (wired.ports n below p h)
+              (by_test (is_register (channel_of net c))
+              (λ r. rw (register_holds s z c rings (rw wired.channels there) (rw (wired.sort c there) r)))
+              (λ r. rw (r, holds c there, empty_signed (held_at s z c)) at fine)))),
+          (λ e.
+              every_all channels has
+              (λ c there.
+              by_test (eqb (channel_of net c).reader n)
+              (λ f.
+              let port = (channel_of net c).port in
+              let within = read_in net obeys n below c there f in
+              let its : port_of w.input n port ≡ c = wired.ports n below port within ∙ read_at net obeys n below c there f in
+              let fine : not (is_empty (held_at s z c)) ≡ true = rw its at (every_at count full e port within) in
+              rw (f, holds c there, empty_signed (held_at s z c), fine) (or-true (is_register (channel_of net c))))
+              (λ f. rw f))),
+        )
+        ((λ e. e), (λ e. e)))
 
     module _ (len : length held ≡ length net.channels) where
       -- the token at a port

@@ -1,14 +1,14 @@
 -- The turns of a pair of nodes one after the other, of which the second may be a node that is not there. Assumes nothing.
 use Prim.Native.Nat.{ℕ, suc, ◌+◌, ◌*◌, ◌^◌, ◌≤◌, ◌<◌, min}
 use native.Mathlib.Omega.{arith}
-use mathlib.Core.List.{List}
 use mathlib.Core.Path.{◌≡◌, refl, sym, ◌∙◌, ap, ap₂}
 use lib.Dec.{ltb}
 use lib.ListN.{length}
 use borrow.Author.Tests.{ltb-true, ltb-false, ne_eqb}
 use Rattle.rules.proofs.ListLaws.{by_test}
-use Rattle.kinds.specs.declared.Pending.{Pending}
-use Rattle.kinds.specs.Nodes.{never}
+use Rattle.kinds.specs.Nodes.{never, Seen}
+use Rattle.layout.specs.declared.Plan.{Plan}
+use Rattle.layout.specs.declared.State.{State}
 use Rattle.layout.specs.Views.{Cells, Pendings, nodes_of, pendings_of, soons_of}
 use Rattle.arrays.specs.Nodes.{pending_at, soon_at, pair_soon, Unused}
 use Rattle.arrays.specs.Instants.{AbleIn, Whole}
@@ -17,9 +17,9 @@ use Rattle.arrays.proofs.ReadLaws.{read_next}
 
 -- a node whose next release and waiting result are as they were has the same earliest instant
 pub soon_same : (p q : Pendings) (k : ℕ) → pending_at q k ≡ pending_at p k → soon_at q k ≡ soon_at p k
-soon_same p q k same = ap (λ (a : Pending). min a.next a.due) same
+soon_same p q k same = ap (λ (a : Seen). min a.next a.due) same
 
-module _ (p s : List ℕ) (t n : ℕ) (z : List ℕ) {m : ℕ} (able : AbleIn p) (whole : Whole p s) (early : t < 2 ^ 24) (few : n < 32) (turn : TurnedIn p s t n z m) where
+module _ (p : Plan) (s : State) (t n : ℕ) (z : State) {m : ℕ} (able : AbleIn p) (whole : Whole p s) (early : t < 2 ^ 24) (few : n < 32) (turn : TurnedIn p s t n z m) where
   -- a node that is not there has no turn
   not_there : nodes_of p ≤ n → z ≡ s
   not_there past = turn.idle (λ e. omega (arith, whole.unused.next n past few)) (λ e. omega (arith, whole.unused.due n past few))
@@ -43,8 +43,8 @@ module _ (p s : List ℕ) (t n : ℕ) (z : List ℕ) {m : ℕ} (able : AbleIn p)
       (λ e.
       let below : n < nodes_of p = ltb-true n (nodes_of p) e in
       record {
-        next = λ k past within. ap (λ (a : Pending). a.next) (turn.turned.others k (ne_eqb k n (λ same. omega arith))) ∙ whole.unused.next k past within;
-        due = λ k past within. ap (λ (a : Pending). a.due) (turn.turned.others k (ne_eqb k n (λ same. omega arith))) ∙ whole.unused.due k past within;
+        next = λ k past within. ap (λ (a : Seen). a.next) (turn.turned.others k (ne_eqb k n (λ same. omega arith))) ∙ whole.unused.next k past within;
+        due = λ k past within. ap (λ (a : Seen). a.due) (turn.turned.others k (ne_eqb k n (λ same. omega arith))) ∙ whole.unused.due k past within;
       })
       (λ e. rw (not_there (ltb-false n (nodes_of p) e)) whole.unused)
 
@@ -58,7 +58,7 @@ module _ (p s : List ℕ) (t n : ℕ) (z : List ℕ) {m : ℕ} (able : AbleIn p)
       }
 
 -- pair g has had its turns up to node n
-pub record PairTo (p s : List ℕ) (t g n : ℕ) (z : List ℕ) (soon : ℕ) : Type 0 where
+pub record PairTo (p : Plan) (s : State) (t g n : ℕ) (z : State) (soon : ℕ) : Type 0 where
   pub low : 2 * g ≤ n
   pub high : n ≤ 2 * g + 2
   pub whole : Whole p z
@@ -69,7 +69,7 @@ pub record PairTo (p s : List ℕ) (t g n : ℕ) (z : List ℕ) (soon : ℕ) : T
   pub one : n ≡ 2 * g + 1 → soon ≡ min never (soon_at (pendings_of z) (2 * g))
   pub both : n ≡ 2 * g + 2 → soon ≡ pair_soon (pendings_of z) g
 
-pub pair_starts : (p s : List ℕ) (t g : ℕ) → 2 * g < nodes_of p → Whole p s → PairTo p s t g (2 * g) s never
+pub pair_starts : (p : Plan) (s : State) (t g : ℕ) → 2 * g < nodes_of p → Whole p s → PairTo p s t g (2 * g) s never
 pair_starts p s t g below whole =
     record {
       low = omega arith;
@@ -85,7 +85,7 @@ pair_starts p s t g below whole =
       both = λ e. absurd (omega arith);
     }
 
-pub pair_turn : (p s : List ℕ) (t g n : ℕ) (y z : List ℕ) {soon m then : ℕ} → AbleIn p → t < 2 ^ 24 → n < 32 → n < 2 * g + 2
+pub pair_turn : (p : Plan) (s : State) (t g n : ℕ) (y z : State) {soon m then : ℕ} → AbleIn p → t < 2 ^ 24 → n < 32 → n < 2 * g + 2
     → PairTo p s t g n y soon → TurnedIn p y t n z m → then ≡ min soon m → PairTo p s t g (n + 1) z then
 unfolding pair_soon
 pair_turn p s t g n y z {soon} {m} {then} able early few within before turn least =
@@ -111,7 +111,7 @@ pair_turn p s t g n y z {soon} {m} {then} able early few within before turn leas
           least ∙ ap₂ min (now ∙ ap (min never) (sym same)) (turn.turned.soon ∙ ap (soon_at (pendings_of z)) here);
     }
 
-pub pair_ends : (p s : List ℕ) (t g n : ℕ) (z : List ℕ) {soon : ℕ} → 2 * g + 2 ≤ n → PairTo p s t g n z soon → PairTurned p s t g z soon
+pub pair_ends : (p : Plan) (s : State) (t g n : ℕ) (z : State) {soon : ℕ} → 2 * g + 2 ≤ n → PairTo p s t g n z soon → PairTurned p s t g z soon
 pair_ends p s t g n z past done =
     let here : n ≡ 2 * g + 2 = omega (arith, done.high) in
     record {

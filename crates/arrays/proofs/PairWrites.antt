@@ -2,19 +2,20 @@
 -- nodes that are not there are never due. Assumes nothing.
 use Prim.Native.Nat.{ℕ, ◌+◌, ◌*◌, ◌^◌, ◌≤◌, ◌<◌, min}
 use native.Mathlib.Omega.{arith}
-use mathlib.Core.List.{List}
-use mathlib.Core.Path.{◌≡◌, refl, sym, subst, ◌∙◌}
+use mathlib.Core.Path.{◌≡◌, sym, subst, ◌∙◌}
 use lib.Dec.{eqb, ltb}
 use lib.ListN.{get_or}
 use borrow.Author.Tests.{ltb-true, ltb-false, eqb-true, eqb-false}
 use Rattle.rules.proofs.ListLaws.{by_test}
+use Rattle.layout.specs.declared.Plan.{Plan}
+use Rattle.layout.specs.declared.State.{State}
 use Rattle.layout.specs.Views.{Cells, Pendings, nodes_of, channels_of, shape_of, ways_of, cells_of, pendings_of, soons_of}
-use Rattle.layout.proofs.FieldLaws.{pendings_kept}
 use Rattle.arrays.specs.Writes.{WroteDue}
 use Rattle.arrays.specs.Nodes.{soon_at, pair_soon}
 use Rattle.arrays.specs.Instants.{RingsIn, Whole, Timely}
 use Rattle.arrays.specs.Turns.{WroteAlong, WroteOn, WroteAll}
 use Rattle.arrays.proofs.Dues.{none_due_law, due_turn, due_skip}
+use Rattle.arrays.proofs.Kept.{pendings_kept}
 
 -- the earliest instant of a pair is not later than that of each of its nodes
 pub pair_soon_at : (q : Pendings) (g n : ℕ) → 2 * g ≤ n → n < 2 * g + 2 → pair_soon q g ≤ soon_at q n
@@ -28,7 +29,7 @@ pair_soon_at q g n low high =
     let second : n ≡ 2 * g + 1 = omega (arith, eqb-false n (2 * g) e) in
     rw second (omega arith))
 
-module _ {p s : List ℕ} {t : ℕ} (whole : Whole p s) where
+module _ {p : Plan} {s : State} {t : ℕ} (whole : Whole p s) where
   -- a node that is due is there
   pub due_there : t < 2 ^ 24 → (n : ℕ) → n < 32 → get_or (pendings_of s).due n 0 ≡ t → n < nodes_of p
   due_there early n h now =
@@ -56,8 +57,8 @@ module _ {p s : List ℕ} {t : ℕ} (whole : Whole p s) where
       other (omega (arith, kept, pair_from timely g (omega arith), pair_soon_at (pendings_of s) g n low high))
 
 -- behind the results up to n those of node n, which is due, are written; where it is not, there are none; so none behind the last node
-module _ {p s y : List ℕ} {t k before full : ℕ} where
-  pub on_due : {z : List ℕ} {r : ℕ} (n : ℕ) → n < nodes_of p → get_or (pendings_of s).due n 0 ≡ t
+module _ {p : Plan} {s y : State} {t k before full : ℕ} where
+  pub on_due : {z : State} {r : ℕ} (n : ℕ) → n < nodes_of p → get_or (pendings_of s).due n 0 ≡ t
       → WroteOn p s t k (min n (nodes_of p)) before y full
       → WroteAlong p y (get_or (ways_of p).first n 0) (get_or (pendings_of s).value n 0) full z r
       → WroteOn p s t k (min (n + 1) (nodes_of p)) before z r
@@ -90,12 +91,9 @@ module _ {p s y : List ℕ} {t k before full : ℕ} where
       let still : min (n + 1) (nodes_of p) ≡ min n (nodes_of p) = omega (arith, ltb-false n (nodes_of p) e) in
       rw still on)
 
--- nothing is written yet, and what is written behind what is
-module _ {p s : List ℕ} {t k before : ℕ} where
-  pub on_none : RingsIn p s → before ≤ channels_of p → WroteOn p s t k k before s before
-  on_none rings most = record { wrote = λ x w. w; rings = rings; few = most; nodes = refl }
-
-  pub on_then : {y z : List ℕ} {n m full r : ℕ} → WroteOn p s t k n before y full → WroteOn p y t n m full z r → WroteOn p s t k m before z r
+-- what is written behind what is
+module _ {p : Plan} {s : State} {t k before : ℕ} where
+  pub on_then : {y z : State} {n m full r : ℕ} → WroteOn p s t k n before y full → WroteOn p y t n m full z r → WroteOn p s t k m before z r
   on_then {y} {z} {n} {m} {full} {r} on more =
       let same = pendings_kept s y on.nodes in
       record {
@@ -108,7 +106,7 @@ module _ {p s : List ℕ} {t k before : ℕ} where
       }
 
   -- a pair: its results are written, or it has none that is due
-  pub pair_due : {y z : List ℕ} {full r : ℕ} (g : ℕ) → 2 * g < nodes_of p
+  pub pair_due : {y z : State} {full r : ℕ} (g : ℕ) → 2 * g < nodes_of p
       → WroteOn p s t k (min (2 * g) (nodes_of p)) before y full
       → WroteOn p y t (2 * g) (min (2 * g + 2) (nodes_of p)) full z r
       → WroteOn p s t k (min (2 * (g + 1)) (nodes_of p)) before z r
@@ -117,12 +115,12 @@ module _ {p s : List ℕ} {t k before : ℕ} where
       let there : 2 * (g + 1) ≡ 2 * g + 2 = omega arith in
       rw there (on_then (rw here at on) more)
 
-  pub pair_skip : {y : List ℕ} {full : ℕ} (g : ℕ) → ((n : ℕ) → 2 * g ≤ n → n < 2 * g + 2 → n < nodes_of p → get_or (pendings_of s).due n 0 ≡ t → ⊥)
+  pub pair_skip : {y : State} {full : ℕ} (g : ℕ) → ((n : ℕ) → 2 * g ≤ n → n < 2 * g + 2 → n < nodes_of p → get_or (pendings_of s).due n 0 ≡ t → ⊥)
       → WroteOn p s t k (min (2 * g) (nodes_of p)) before y full
       → WroteOn p s t k (min (2 * (g + 1)) (nodes_of p)) before y full
   pair_skip g other on =
       let there : 2 * (g + 1) ≡ 2 * g + 1 + 1 = omega arith in
       rw there (on_skip (2 * g + 1) (other (2 * g + 1) (omega arith) (omega arith)) (on_skip (2 * g) (other (2 * g) (omega arith) (omega arith)) on))
 
-pub on_all : {p s z : List ℕ} {t r : ℕ} → RingsIn p s → WroteOn p s t 0 (nodes_of p) (channels_of p) z r → WroteAll p s t z r
+pub on_all : {p : Plan} {s z : State} {t r : ℕ} → RingsIn p s → WroteOn p s t 0 (nodes_of p) (channels_of p) z r → WroteAll p s t z r
 on_all {s = s} rings on = record { wrote = on.wrote (cells_of s) (none_due_law rings); few = on.few; nodes = on.nodes }

@@ -2,16 +2,17 @@
 use Prim.Native.Nat.{ℕ, suc, ◌+◌, ◌*◌, ◌≤◌, ◌<◌, min}
 use native.Mathlib.Numerals.{add-one}
 use native.Mathlib.Omega.{arith}
-use mathlib.Core.List.{List}
 use mathlib.Core.Path.{◌≡◌, sym, ◌∙◌, ap, ap₂}
 use lib.Dec.{eqb, ltb}
 use borrow.Author.Tests.{ltb-true, ltb-false, eqb-true, eqb-false}
 use Rattle.rules.proofs.ListLaws.{by_test}
 use Rattle.kinds.specs.Nodes.{never}
+use Rattle.layout.specs.declared.Plan.{Plan}
+use Rattle.layout.specs.declared.State.{State}
 use Rattle.layout.specs.Views.{Pendings, nodes_of, cells_of, pendings_of, soons_of}
 use Rattle.arrays.specs.Nodes.{pending_at, soon_at, soonest, pair_soon, Unused, Paired}
 use Rattle.arrays.specs.Instants.{AbleIn, Whole, Timely}
-use Rattle.arrays.specs.Turns.{ReadTo, PairRead, ReadAll}
+use Rattle.arrays.specs.Turns.{ReadTo, PairRead}
 use Rattle.arrays.proofs.ReadLaws.{read_none, soonest_same}
 use Rattle.arrays.proofs.SoonLaws.{soonest_given}
 use Rattle.arrays.proofs.PairWrites.{pair_from}
@@ -21,13 +22,9 @@ use Rattle.arrays.proofs.PairTurns.{soon_same}
 with_one : (given a : ℕ) → given ≤ never → min given a ≡ min given (min (min never a) never)
 with_one given a most = omega arith
 
-joined : (a b c : ℕ) → min (min a b) c ≡ min a (min b c)
-joined a b c = omega arith
-
 with_both : (given a b : ℕ) → given ≤ never → min (min given a) b ≡ min given (min (min never a) b)
 with_both given a b most =
-    let same : min given a ≡ min given (min never a) = omega arith in
-    ap (λ (m : ℕ). min m b) same ∙ joined given (min never a) b
+    omega arith
 
 -- the earliest instant of the nodes up to a pair and of the pair
 pair_soonest : (q : Pendings) (nodes from g : ℕ) → from ≤ never → nodes ≤ 32 → 2 * g < nodes → Unused nodes q
@@ -53,13 +50,13 @@ pair_same q r g h other same =
     ap₂ min (ap (min never) (soon (2 * h) (λ low. omega (arith, other)))) (soon (2 * h + 1) (λ low. omega (arith, other)))
 
 -- the first g pairs are read
-pub record PairsRead (p s : List ℕ) (t from g : ℕ) (z : List ℕ) (r : ℕ) : Type 0 where
+pub record PairsRead (p : Plan) (s : State) (t from g : ℕ) (z : State) (r : ℕ) : Type 0 where
   pub whole : Whole p z
   pub read : ReadTo p t (min (2 * g) (nodes_of p)) (cells_of s) (pendings_of s) z
   pub paired : Paired (nodes_of p) (soons_of z) (pendings_of z)
   pub soon : r ≡ soonest (pendings_of z) from (min (2 * g) (nodes_of p))
 
-pub pairs_none : (p s : List ℕ) (t from : ℕ) → Whole p s → Timely p s t → PairsRead p s t from 0 s from
+pub pairs_none : (p : Plan) (s : State) (t from : ℕ) → Whole p s → Timely p s t → PairsRead p s t from 0 s from
 unfolding soonest
 pairs_none p s t from whole timely =
     let none : min (2 * 0) (nodes_of p) ≡ 0 = omega arith in
@@ -70,7 +67,7 @@ pairs_none p s t from whole timely =
       soon = rw none;
     }
 
-module _ (p s : List ℕ) (t from g : ℕ) (z : List ℕ) {soon : ℕ} (able : AbleIn p) (timely : Timely p s t) (below : 2 * g < nodes_of p) (so_far : PairsRead p s t from g z soon) where
+module _ (p : Plan) (s : State) (t from g : ℕ) (z : State) {soon : ℕ} (able : AbleIn p) (timely : Timely p s t) (below : 2 * g < nodes_of p) (so_far : PairsRead p s t from g z soon) where
   before_pair : min (2 * g) (nodes_of p) ≡ 2 * g
   before_pair = omega arith
 
@@ -81,7 +78,7 @@ module _ (p s : List ℕ) (t from g : ℕ) (z : List ℕ) {soon : ℕ} (able : A
       let same : (k : ℕ) → 2 * g ≤ k → soon_at (pendings_of z) k ≡ soon_at (pendings_of s) k = λ k h. soon_same (pendings_of s) (pendings_of z) k (so_far.read.others k (omega arith)) in
       rw (same (2 * g) (omega arith), same (2 * g + 1) (omega arith)) (pair_from whole timely g (omega (arith, able.few)))
 
-  pub pairs_next : (y : List ℕ) {m then : ℕ} → from ≤ never → PairRead p z t g y m → then ≡ min soon m → PairsRead p s t from (g + 1) y then
+  pub pairs_next : (y : State) {m then : ℕ} → from ≤ never → PairRead p z t g y m → then ≡ min soon m → PairsRead p s t from (g + 1) y then
   pairs_next y {m} {then} most pair least =
       let all : min (2 * (g + 1)) (nodes_of p) ≡ min (2 * g + 2) (nodes_of p) = omega arith in
       let earlier : soonest (pendings_of y) from (2 * g) ≡ soonest (pendings_of z) from (2 * g) = soonest_same (pendings_of z) (pendings_of y) from (2 * g) (λ k h. soon_same (pendings_of z) (pendings_of y) k (pair.turned.others k (λ low. absurd (omega arith)))) in
@@ -95,13 +92,3 @@ module _ (p s : List ℕ) (t from g : ℕ) (z : List ℕ) {soon : ℕ} (able : A
             (λ e. pair.others h e ∙ so_far.paired h there ∙ pair_same (pendings_of z) (pendings_of y) g h (eqb-false h g e) pair.turned.others);
         soon = rw all (least ∙ ap₂ min (before ∙ sym earlier) pair.turned.soon ∙ sym (pair_soonest (pendings_of y) (nodes_of p) from g most able.few below pair.turned.whole.unused));
       }
-
-pub pairs_all : (p s : List ℕ) (t from g : ℕ) (z : List ℕ) {soon : ℕ} → nodes_of p ≤ 2 * g → PairsRead p s t from g z soon → ReadAll p s t from z soon
-pairs_all p s t from g z past so_far =
-    let all : min (2 * g) (nodes_of p) ≡ nodes_of p = omega arith in
-    record {
-      whole = so_far.whole;
-      read = rw all at so_far.read;
-      paired = so_far.paired;
-      soon = rw all at so_far.soon;
-    }

@@ -14,12 +14,12 @@ use Rattle.layout.specs.Views.{Shape, Cells}
 use Rattle.rings.specs.Rings.{Rings, Took, held_at, register_at}
 use Rattle.arrays.specs.Taking.{port_of, Ported, at_port, all_hold, found, taken_at}
 use Rattle.rings.proofs.RingLaws.{length_held}
-use Rattle.arrays.proofs.EqualTurned.{eqb_sym}
+use Rattle.std.proofs.lemmas.Cmp.{nat_eq_equiv}
 use Rattle.rings.proofs.TookLaws.{took_none, took_ext, took_then, either_takes}
 use Rattle.arrays.proofs.TakenPorts.{hold_length, queue_at}
 
 -- a port's channel is at none of the earlier ports
-not_earlier : {channels : ℕ} {input : List ℕ} {n count : ℕ} → Ported channels input n count → (k : ℕ) → k < count → at_port input n k (port_of input n k) ≡ false
+not_earlier : {channels : ℕ} {input : List (List ℕ)} {n count : ℕ} → Ported channels input n count → (k : ℕ) → k < count → at_port input n k (port_of input n k) ≡ false
 unfolding at_port
 not_earlier {channels} {input} {n} {count} ported k h =
     ap not
@@ -27,10 +27,10 @@ not_earlier {channels} {input} {n} {count} ported k h =
     (λ p below. ap not (ported.different p k below h)))
 
 -- channel c is a queue at one of the node's first k ports
-abbrev pub queue_below : Shape → List ℕ → ℕ → ℕ → ℕ → ℕ → Bool
+abbrev pub queue_below : Shape → List (List ℕ) → ℕ → ℕ → ℕ → ℕ → Bool
 queue_below s input n count k c = at_port input n (min k count) c && not (register_at s c)
 
-module _ (s : Shape) (input : List ℕ) (n count : ℕ) where
+module _ (s : Shape) (input : List (List ℕ)) (n count : ℕ) where
   -- before the first port
   pub no_port_yet : (x : Cells) → Rings s x → Took s x (queue_below s input n count 0) x
   unfolding at_port every
@@ -47,14 +47,14 @@ module _ (s : Shape) (input : List ℕ) (n count : ℕ) where
       let below : k < count = ltb-true k count e in
       let least : min k count ≡ k = omega arith in
       let more : min (suc k) count ≡ suc k = omega arith in
-      rw (e, least, more, eqb_sym c (port_of input n k))
+      rw (e, least, more, nat_eq_equiv.symm c (port_of input n k))
       (either_takes (every k (λ p. not (eqb (port_of input n p) c))) (eqb (port_of input n k) c) (not (register_at s c))))
       (λ e.
       let behind : count ≤ k = ltb-false k count e in
       let same : min (suc k) count ≡ min k count = omega arith in
       rw (e, same, and-true, not-not))
 
-module _ (s : Shape) (input : List ℕ) (n count : ℕ) (ported : Ported s.channels input n count) where
+module _ (s : Shape) (input : List (List ℕ)) (n count : ℕ) (ported : Ported s.channels input n count) where
   -- once the earlier ports are taken, a port's channel is as it was
   port_held : (x y : Cells) (k : ℕ) → k < count → Took s x (queue_below s input n count k) y → held_at s y (port_of input n k) ≡ held_at s x (port_of input n k)
   port_held x y k h t =

@@ -11,17 +11,16 @@ use lib.ListN.{get_or}
 use borrow.Author.Tests.{not-true, eqb-true, ltb-true, ltb-false, ne_eqb}
 use Rattle.rules.specs.Lists.{every, is_empty}
 use Rattle.rules.proofs.ListLaws.{by_test, true_or_false, and_left, and_right, every_all}
-use Rattle.kinds.specs.declared.Pending.{Pending}
 use Rattle.layout.specs.Views.{Shape, Cells, Wires, Pendings}
 use Rattle.rings.specs.Rings.{Rings, Took, held_at, register_at}
 use Rattle.arrays.specs.Taking.{port_of, at_port, all_hold, found}
 use Rattle.arrays.specs.Nodes.{pending_at, waiting_at, inputs_at, ahead_at, result_at, waiting_then, next_then, taken_below, soon_at, soonest, Readable, Separate, Turned, ReadBelow}
-use Rattle.kinds.specs.Nodes.{waiting_by}
+use Rattle.kinds.specs.Nodes.{waiting_by, Seen}
 use Rattle.rings.proofs.TookLaws.{took_none, took_ext, took_then, either_takes}
 use Rattle.rules.proofs.Agreeing.{every_ext}
 
 -- what a node finds is told by what stands at its ports
-module _ (s : Shape) (x y : Cells) (input : List ℕ) (n count : ℕ) (same : (p : ℕ) → p < count → held_at s y (port_of input n p) ≡ held_at s x (port_of input n p)) where
+module _ (s : Shape) (x y : Cells) (input : List (List ℕ)) (n count : ℕ) (same : (p : ℕ) → p < count → held_at s y (port_of input n p) ≡ held_at s x (port_of input n p)) where
   all_hold_same : all_hold s y input n count ≡ all_hold s x input n count
   unfolding all_hold
   all_hold_same =
@@ -96,17 +95,17 @@ read_next {nodes} {w} {s} {x} {y} {z} {p} {q} {r} {t} {n} {m} sep few ready belo
     let holds = all_hold_same s x y w.input n (inputs_at w n) same in
     let finds = found_same s x y w.input n (inputs_at w n) same in
     let before : pending_at q n ≡ pending_at p n = below.others n (omega arith) in
-    let next_same : get_or q.next n 0 ≡ get_or p.next n 0 = ap (λ (a : Pending). a.next) before in
-    let due_same : get_or q.due n 0 ≡ get_or p.due n 0 = ap (λ (a : Pending). a.due) before in
-    let value_same : get_or q.value n 0 ≡ get_or p.value n 0 = ap (λ (a : Pending). a.value) before in
+    let next_same : get_or q.next n 0 ≡ get_or p.next n 0 = ap (λ (a : Seen). a.next) before in
+    let due_same : get_or q.due n 0 ≡ get_or p.due n 0 = ap (λ (a : Seen). a.due) before in
+    let value_same : get_or q.value n 0 ≡ get_or p.value n 0 = ap (λ (a : Seen). a.value) before in
     record {
       took = took_ext
           (took_then below.took (rw (next_same, holds) at turn.took)
           (λ c h. taken_once w s x p t n sep few c (and_right (ahead_at w s x p t n) (at_port w.input n (inputs_at w n) c) (and_left (ahead_at w s x p t n && at_port w.input n (inputs_at w n) c) (not (register_at s c)) h))))
           (λ c. either_takes (every n (λ k. not (ahead_at w s x p t k && at_port w.input k (inputs_at w k) c))) (ahead_at w s x p t n && at_port w.input n (inputs_at w n) c) (not (register_at s c)));
-      waits = below_suc (λ k. waiting_at r k ≡ waiting_then w s x p t k) n (λ k h. ap (λ (a : Pending). waiting_by a.due a.value) (turned_below turn k h) ∙ below.waits k h)
+      waits = below_suc (λ k. waiting_at r k ≡ waiting_then w s x p t k) n (λ k h. ap (λ (a : Seen). waiting_by a.due a.value) (turned_below turn k h) ∙ below.waits k h)
           (turn.waits ∙ rw (next_same, due_same, value_same, holds, finds 0, finds 1, finds 2));
-      next = below_suc (λ k. get_or r.next k 0 ≡ next_then w p t k) n (λ k h. ap (λ (a : Pending). a.next) (turned_below turn k h) ∙ below.next k h) (turn.next ∙ rw next_same);
+      next = below_suc (λ k. get_or r.next k 0 ≡ next_then w p t k) n (λ k h. ap (λ (a : Seen). a.next) (turned_below turn k h) ∙ below.next k h) (turn.next ∙ rw next_same);
       others = λ k h. turn.others k (ne_eqb k n (λ e. omega arith)) ∙ below.others k (omega arith);
     }
 

@@ -1,11 +1,12 @@
 -- The reads of an instant: what the rings hold and what waits then are those of the rules. Assumes nothing.
 use Prim.Native.Nat.{ℕ, suc, ◌%◌, ◌<◌}
 use mathlib.Core.Bool.{Bool, true, false, cond, not, ◌&&◌, and-false, and_comm}
-use mathlib.Core.List.{List, [], ◌∷◌, map}
+use mathlib.Core.List.{List, map}
 use mathlib.Core.Path.{◌≡◌, refl, sym, ◌∙◌, ap, ap₂}
 use lib.Dec.{eqb, ltb}
 use lib.IntN.{ℤ}
 use lib.ListN.{length, get_or, drop}
+use Rattle.std.proofs.lemmas.List.{drop-map}
 use borrow.Author.Tests.{ltb-true, lt-ltb, eqb-true, eq-eqb}
 use Rattle.rules.specs.Lists.{every}
 use Rattle.rules.specs.Kinds.{signed}
@@ -22,10 +23,6 @@ use Rattle.arrays.specs.Represents.{Wired, Represents}
 use Rattle.arrays.proofs.ReleaseLaws.{next_is_now, next_after, due_at_release, due_goes}
 use Rattle.arrays.proofs.NodeReads.{at_port_reads, hold_ready, result_same}
 use Rattle.rules.proofs.Agreeing.{every_fails}
-
-drop_signed : (l : List ℕ) → drop 1 (map signed l) ≡ map signed (drop 1 l)
-drop_signed [] = refl
-drop_signed (x ∷ l) = refl
 
 -- what goes ahead is a node
 ahead_below : (net : Network) (held : List (List ℤ)) (t n : ℕ) → goes_ahead net held t n ≡ true → n < length net.nodes
@@ -88,7 +85,7 @@ module _ (net : Network) (t : ℕ) (st : State) (s : Shape) (w : Wires) (v : Way
   held_same c there =
       let taken = goes_ahead net held t (channel_of net c).reader && not (register_at s c) in
       rw (and_comm (not (is_register (channel_of net c))) (goes_ahead net held t (channel_of net c).reader), ← wired.sort c there, reader_takes c there, holds c there)
-      (by_test taken (λ e. rw e (drop_signed (held_at s z c))) (λ e. rw e))
+      (by_test taken (λ e. rw e (drop-map signed 1 (held_at s z c))) (λ e. rw e))
 
 pub reads_stand :
     (net : Network) (arrivals : List ℕ) (t : ℕ) (st : State) (s : Shape) (w : Wires) (v : Ways) (x z u : Cells) (p q : Pendings)

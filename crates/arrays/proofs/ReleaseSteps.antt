@@ -2,36 +2,37 @@
 use Prim.Native.Nat.{ℕ, ◌+◌, ◌<◌}
 use mathlib.Core.Bool.{true, false}
 use mathlib.Core.Path.{◌≡◌, refl}
+use lib.IntN.{ℤ}
 use lib.ListN.{get_or}
+use Rattle.std.proofs.Common.{Option, Some, w32, SFits}
 use Rattle.rules.specs.Kinds.{signed, result}
-use Rattle.kinds.specs.declared.Made.{Made}
 use Rattle.kinds.specs.declared.Pending.{Pending}
-use Rattle.kinds.specs.Nodes.{never, made_says, ahead_of}
+use Rattle.kinds.specs.Nodes.{never, said, seen, ahead_of}
 use Rattle.kinds.proofs.StateLaws.{ahead_waits}
 use Rattle.layout.specs.Views.{Shape, Cells, Wires}
 use Rattle.rings.specs.Rings.{Took}
 use Rattle.arrays.specs.Taking.{all_hold, found, taken_at}
 use Rattle.arrays.specs.Nodes.{inputs_at, result_at, Released}
 
-module _ {w : Wires} {s : Shape} {x y : Cells} {n : ℕ} {before r : Pending} (took : Took s x (taken_at s x w.input n (inputs_at w n)) y) where
-  pub released_ahead : {a b c : ℕ} (made : Made) → all_hold s x w.input n (inputs_at w n) ≡ true
+module _ {w : Wires} {s : Shape} {x y : Cells} {n : ℕ} (took : Took s x (taken_at s x w.input n (inputs_at w n)) y) where
+  pub released_ahead : (before : Pending) {r : Pending} {a b c : ℕ} (made : Option ℤ) → ((v : ℤ) → made ≡ Some v → SFits w32 v) → all_hold s x w.input n (inputs_at w n) ≡ true
       → a ≡ found s x w.input n (inputs_at w n) 0
       → b ≡ found s x w.input n (inputs_at w n) 1
       → c ≡ found s x w.input n (inputs_at w n) 2
-      → made_says made ≡ result (get_or w.kind n 0) (signed (get_or w.constant n 0)) (signed a) (signed b) (signed c)
+      → said made ≡ result (get_or w.kind n 0) (signed (get_or w.constant n 0)) (signed a) (signed b) (signed c)
       → before.next + get_or w.deadline n 0 < never
       → r ≡ ahead_of before (get_or w.period n 0) (get_or w.deadline n 0) made
-      → Released w s x n before y r
+      → Released w s x n (seen before) y (seen r)
   unfolding result_at
-  released_ahead made holds first second third makes early after =
+  released_ahead before made fits holds first second third makes early after =
       rw after
       (record {
         took = took;
         next = refl;
-        waits = rw (holds, ← first, ← second, ← third, ← makes) (ahead_waits before (get_or w.period n 0) (get_or w.deadline n 0) made early);
+        waits = rw (holds, ← first, ← second, ← third, ← makes) (ahead_waits before (get_or w.period n 0) (get_or w.deadline n 0) made fits early);
       })
 
-  pub released_skipped : all_hold s x w.input n (inputs_at w n) ≡ false
-      → r ≡ record { next = before.next + get_or w.period n 0; due = never; value = before.value }
-      → Released w s x n before y r
-  released_skipped lacks after = rw after (record { took = took; next = refl; waits = rw lacks })
+  pub released_skipped : (before : Pending) {r : Pending} → all_hold s x w.input n (inputs_at w n) ≡ false
+      → r ≡ record before { next = before.next + get_or w.period n 0; due = never }
+      → Released w s x n (seen before) y (seen r)
+  released_skipped before lacks after = rw after (record { took = took; next = refl; waits = rw lacks })

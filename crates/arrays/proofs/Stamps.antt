@@ -5,13 +5,13 @@ use mathlib.Core.List.{List, ◌++◌}
 use mathlib.Core.Path.{◌≡◌}
 use lib.Dec.{eqb, ltb}
 use lib.ListN.{length, get_or}
-use borrow.Author.Tests.{ltb-true, ltb-false, ne_eqb}
+use borrow.Author.Tests.{ltb-true, ltb-false}
 use Rattle.rules.specs.Instant.{channel_in, time_in}
 use Rattle.rules.proofs.ListLaws.{by_test}
 use Rattle.layout.specs.Views.{Shape, Cells}
 use Rattle.rings.specs.Rings.{Rings, Wrote, to_each}
-use Rattle.arrays.specs.Writes.{values_on, WroteArrivals}
-use Rattle.arrays.proofs.EqualTurned.{eqb_sym}
+use Rattle.arrays.specs.Writes.{values_on}
+use Rattle.std.proofs.lemmas.Cmp.{nat_eq_equiv}
 use Rattle.rings.proofs.WroteLaws.{wrote_none, wrote_then, wrote_ext}
 
 -- the arrivals from an index up to i are stamped t, and are written
@@ -27,7 +27,7 @@ unfolding values_on
 one_more arrivals from i c v d on channel value =
     let longer : i + 1 - from ≡ suc (i - from) = omega arith in
     let place : from + (i - from) ≡ i = omega arith in
-    rw (longer, place, ← channel, ← value, eqb_sym c d)
+    rw (longer, place, ← channel, ← value, nat_eq_equiv.symm c d)
 
 module _ {s : Shape} {x : Cells} {arrivals : List ℕ} {from t : ℕ} where
   pub none_written : Rings s x → from ≤ length arrivals → WrittenTo s x arrivals from t x from s.channels
@@ -58,15 +58,4 @@ module _ {s : Shape} {x : Cells} {arrivals : List ℕ} {from t : ℕ} where
             (values_on arrivals from (i + 1 - from)) (min full f)
             (λ d h. one_more arrivals from i c v d before.on channel value)
             (wrote_then s x y z (values_on arrivals from (i - from)) (to_each (λ e. eqb e c) v) full f before.wrote put));
-      }
-
-  -- the arrivals end, or the next one is stamped otherwise
-  pub stamps_stop : {y : Cells} {i full : ℕ} → (i < length arrivals → time_in (get_or arrivals i 0) ≡ t → ⊥) → WrittenTo s x arrivals from t y i full → WroteArrivals s x arrivals from t y i full
-  stamps_stop {y} {i} {full} other before =
-      record {
-        on = before.on;
-        within = before.within;
-        stamped = before.stamped;
-        stops = λ h. ne_eqb (time_in (get_or arrivals i 0)) t (other h);
-        wrote = before.wrote;
       }

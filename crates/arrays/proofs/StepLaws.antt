@@ -12,6 +12,8 @@ use Rattle.rules.specs.Lists.{lowest}
 use Rattle.rules.specs.Network.{Network}
 use Rattle.rules.specs.Instant.{State, after_writes, after_reads, overfull, out_words, stops, goes, judged, instant}
 use Rattle.rules.proofs.ListLaws.{lowest_is}
+use Rattle.layout.specs.declared.Plan.{Plan}
+use Rattle.layout.specs.declared.State as layout
 use Rattle.layout.specs.Views.{Shape, Cells, Wires, Pendings, Ways, nodes_of, channels_of, shape_of, wires_of, ways_of, cells_of, pendings_of, soons_of}
 use Rattle.arrays.specs.Writes.{WroteDue, WroteArrivals, Gathered, arrival_at}
 use Rattle.arrays.specs.Nodes.{soonest, ReadBelow, Paired}
@@ -59,7 +61,7 @@ module _ {net : Network} {arrivals : List ℕ} {s : Shape} {w : Wires} {v : Ways
       }
 
 -- no queue is overfull, and the words are gathered
-module _ {net : Network} {arrivals : List ℕ} (p state : List ℕ) {next t more : ℕ} {st : State} {x : Cells} {words : List ℕ}
+module _ {net : Network} {arrivals : List ℕ} (p : Plan) (state : layout.State) {next t more : ℕ} {st : State} {x : Cells} {words : List ℕ}
     (written : WrittenIn net arrivals p next t st x state)
     (gathered : Gathered (channels_of p) t (ways_of p).follow_out (ways_of p).first_out (ways_of p).writer (pendings_of state).due (pendings_of state).value words more)
     (places : length words ≡ 64) where
@@ -84,7 +86,7 @@ module _ {net : Network} {arrivals : List ℕ} (p state : List ℕ) {next t more
   step_short room short = rw (by_room room, lt-ltb room more short)
 
   -- they fit: they are put behind the others of the list, and the reads make the next state
-  pub step_on : {out after z : List ℕ} {count arrival soon : ℕ}
+  pub step_on : {out after : List ℕ} {z : layout.State} {count arrival soon : ℕ}
       → nodes_of p ≡ length net.nodes
       → more ≤ length out - count
       → after ≡ take count out ++ (take more words ++ drop (count + more) out)

@@ -20,22 +20,22 @@ empty_length [] = refl
 empty_length (t ∷ l) = ne_eqb (suc (length l)) 0 (λ e. omega arith)
 
 -- the test of the lengths at a node's ports is that every one holds a token
-pub lengths_hold : (s : Shape) (x : Cells) (input : List ℕ) (n count : ℕ) → every count (λ p. not (eqb (get_or x.len (port_of input n p) 0) 0)) ≡ all_hold s x input n count
+pub lengths_hold : (s : Shape) (x : Cells) (input : List (List ℕ)) (n count : ℕ) → every count (λ p. not (eqb (get_or x.len (port_of input n p) 0) 0)) ≡ all_hold s x input n count
 unfolding all_hold
 lengths_hold s x input n count =
     ap (every count) (fun_ext (λ p. rw (← length_held s x (port_of input n p), empty_length)))
 
-pub hold_length : (s : Shape) (x : Cells) (input : List ℕ) (n count : ℕ) → all_hold s x input n count ≡ true → (p : ℕ) → p < count → 1 ≤ get_or x.len (port_of input n p) 0
+pub hold_length : (s : Shape) (x : Cells) (input : List (List ℕ)) (n count : ℕ) → all_hold s x input n count ≡ true → (p : ℕ) → p < count → 1 ≤ get_or x.len (port_of input n p) 0
 hold_length s x input n count holds p below =
     let len : ℕ = get_or x.len (port_of input n p) 0 in
     let some = every_at count (λ q. not (eqb (get_or x.len (port_of input n q) 0) 0)) (lengths_hold s x input n count ∙ holds) p below in
     omega (arith, eqb-false len 0 (not-true (eqb len 0) some))
 
 -- channel d is a queue at port p, and the node has such a port
-abbrev pub queue_at : Shape → List ℕ → ℕ → ℕ → ℕ → ℕ → Bool
+abbrev pub queue_at : Shape → List (List ℕ) → ℕ → ℕ → ℕ → ℕ → Bool
 queue_at s input n count p d = (ltb p count && eqb d (port_of input n p)) && not (register_at s d)
 
-module _ (s : Shape) (x : Cells) (input : List ℕ) (n count p : ℕ) where
+module _ (s : Shape) (x : Cells) (input : List (List ℕ)) (n count p : ℕ) where
   pub took_at_port : {y : Cells} → p < count → Took s x (λ d. eqb d (port_of input n p) && not (register_at s (port_of input n p))) y → Took s x (queue_at s input n count p) y
   took_at_port below t =
       took_ext t
@@ -52,5 +52,5 @@ module _ (s : Shape) (x : Cells) (input : List ℕ) (n count p : ℕ) where
   found_behind behind = rw (le-ltb p count behind)
 
 -- where a port holds no token nothing is taken
-pub took_lacking : {s : Shape} {x : Cells} (input : List ℕ) (n count : ℕ) → Rings s x → all_hold s x input n count ≡ false → Took s x (taken_at s x input n count) x
+pub took_lacking : {s : Shape} {x : Cells} (input : List (List ℕ)) (n count : ℕ) → Rings s x → all_hold s x input n count ≡ false → Took s x (taken_at s x input n count) x
 took_lacking input n count rings lacks = took_ext (took_none rings) (λ d. rw lacks)

@@ -7,16 +7,15 @@ use lib.Dec.{eqb}
 use lib.ListN.{get_or, set, length-set}
 use lib.Seq.{get_or-set_same, get_or-set_other, set-get_or}
 use borrow.Author.Tests.{eq-eqb, ne_eqb, eqb-false}
-use Rattle.kinds.specs.declared.Pending.{Pending}
 use Rattle.layout.specs.Views.{Shape, Cells, Wires, Pendings, pendings}
 use Rattle.rings.specs.Rings.{Rings, Took, register_at}
-use Rattle.kinds.specs.Nodes.{never, waiting_by}
+use Rattle.kinds.specs.Nodes.{never, waiting_by, Seen}
 use Rattle.arrays.specs.Taking.{at_port}
 use Rattle.arrays.specs.Nodes.{pending_at, inputs_at, released_at, ahead_at, waiting_then, result_at, next_then, soon_at, Sized, Released, Turned}
 use Rattle.rings.proofs.TookLaws.{took_none}
 
 -- the pendings with node n's replaced
-abbrev pub stored : Pendings → ℕ → Pending → Pendings
+abbrev pub stored : Pendings → ℕ → Seen → Pendings
 stored p n a = pendings (set p.next n a.next) (set p.due n a.due) (set p.value n a.value)
 
 pub stored_same : (p : Pendings) (n : ℕ) → stored p n (pending_at p n) ≡ p
@@ -25,7 +24,7 @@ stored_same p n = λ i.
 
 module _ {w : Wires} {s : Shape} {x : Cells} {p : Pendings} {n : ℕ} (sized : Sized p) (few : n < 32) where
   -- what is stored for node n is what its turn makes of it
-  turned : {t : ℕ} {y : Cells} (a : Pending) {m : ℕ} → Took s x (λ c. (ahead_at w s x p t n && at_port w.input n (inputs_at w n) c) && not (register_at s c)) y → waiting_by a.due a.value ≡ waiting_then w s x p t n → a.next ≡ next_then w p t n → m ≡ min a.next a.due → Turned w s x p t n y (stored p n a) m
+  turned : {t : ℕ} {y : Cells} (a : Seen) {m : ℕ} → Took s x (λ c. (ahead_at w s x p t n && at_port w.input n (inputs_at w n) c) && not (register_at s c)) y → waiting_by a.due a.value ≡ waiting_then w s x p t n → a.next ≡ next_then w p t n → m ≡ min a.next a.due → Turned w s x p t n y (stored p n a) m
   turned a took waits next soon =
       let at_next : get_or (set p.next n a.next) n 0 ≡ a.next = get_or-set_same p.next n a.next 0 (omega arith) in
       let at_due : get_or (set p.due n a.due) n 0 ≡ a.due = get_or-set_same p.due n a.due 0 (omega arith) in
@@ -46,14 +45,14 @@ module _ {w : Wires} {s : Shape} {x : Cells} {p : Pendings} {n : ℕ} (sized : S
       }
 
   -- node n is released, at its next release
-  pub turned_released : {before : Pending} {y : Cells} {a : Pending} {m : ℕ} → before ≡ pending_at p n → Released w s x n before y a → m ≡ min a.next a.due → Turned w s x p before.next n y (stored p n a) m
+  pub turned_released : {before : Seen} {y : Cells} {a : Seen} {m : ℕ} → before ≡ pending_at p n → Released w s x n before y a → m ≡ min a.next a.due → Turned w s x p before.next n y (stored p n a) m
   unfolding waiting_then result_at
   turned_released {before} {a} is r soon =
       let now : released_at p before.next n ≡ true = eq-eqb (get_or p.next n 0) before.next (rw is) in
       turned a (rw now r.took) (rw now r.waits) (rw now r.next) soon
 
   -- its result is written
-  pub turned_due : {t : ℕ} {a : Pending} {m : ℕ} → Rings s x → (get_or p.next n 0 ≡ t → ⊥) → get_or p.due n 0 ≡ t → a ≡ record { next = get_or p.next n 0; due = never; value = get_or p.value n 0 } → m ≡ min a.next a.due → Turned w s x p t n x (pendings p.next (set p.due n a.due) p.value) m
+  pub turned_due : {t : ℕ} {a : Seen} {m : ℕ} → Rings s x → (get_or p.next n 0 ≡ t → ⊥) → get_or p.due n 0 ≡ t → a ≡ record { next = get_or p.next n 0; due = never; value = get_or p.value n 0 } → m ≡ min a.next a.due → Turned w s x p t n x (pendings p.next (set p.due n a.due) p.value) m
   unfolding waiting_then
   turned_due {t} {a} rings later due written soon =
       let still : released_at p t n ≡ false = ne_eqb (get_or p.next n 0) t later in

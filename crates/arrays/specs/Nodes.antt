@@ -2,17 +2,16 @@
 use Rattle.std.specs.Prelude.{ℕ, zero, suc, ◌+◌, ◌*◌, ◌^◌, ◌≤◌, ◌<◌, min, Bool, false, cond, not, ◌&&◌, List, ◌≡◌, eqb, ℤ, get_or, length}
 use Rattle.std.proofs.Math.Option.{Option, none}
 use Rattle.rules.specs.Lists.{every}
-use Rattle.rules.specs.Kinds.{signed, pattern, is_zero, result, inputs}
+use Rattle.rules.specs.Kinds.{signed, is_zero, result, inputs}
 use Rattle.rules.specs.Instant.{Waiting, wait_for}
-use Rattle.kinds.specs.declared.Pending.{Pending}
-use Rattle.kinds.specs.Nodes.{never, waiting_by}
+use Rattle.kinds.specs.Nodes.{never, waiting_by, Seen}
 use Rattle.layout.specs.Views.{Shape, Cells, Wires, Pendings}
 use Rattle.rings.specs.Rings.{Took, register_at}
 use Rattle.arrays.specs.Taking.{port_of, Ported, at_port, all_hold, found, taken_at}
 
 -- a node's next release and waiting result
-abbrev pub pending_at : Pendings → ℕ → Pending
-pending_at p n = record { next = get_or p.next n 0; due = get_or p.due n 0; value = signed (get_or p.value n 0) }
+abbrev pub pending_at : Pendings → ℕ → Seen
+pending_at p n = record { next = get_or p.next n 0; due = get_or p.due n 0; value = get_or p.value n 0 }
 
 abbrev pub waiting_at : Pendings → ℕ → Option Waiting
 waiting_at p n = waiting_by (get_or p.due n 0) (get_or p.value n 0)
@@ -76,11 +75,11 @@ pub record ReadBelow (w : Wires) (s : Shape) (x : Cells) (p : Pendings) (t k : �
   pub others : (n : ℕ) → k ≤ n → pending_at q n ≡ pending_at p n
 
 -- a release of node n: what it takes, its next release, and what waits then
-pub record Released (w : Wires) (s : Shape) (x : Cells) (n : ℕ) (before : Pending) (y : Cells) (r : Pending) : Type 0 where
+pub record Released (w : Wires) (s : Shape) (x : Cells) (n : ℕ) (before : Seen) (y : Cells) (r : Seen) : Type 0 where
   pub took : Took s x (taken_at s x w.input n (inputs_at w n)) y
   pub next : r.next ≡ before.next + get_or w.period n 0
   pub waits :
-      waiting_by r.due (pattern r.value)
+      waiting_by r.due r.value
       ≡ cond (all_hold s x w.input n (inputs_at w n)) (wait_for (before.next + get_or w.deadline n 0) (result_at w s x n)) none
 
 -- node n has had its turn to read at t; the others are as they were
@@ -102,7 +101,7 @@ pub record Readable (channels : ℕ) (w : Wires) (n : ℕ) : Type 0 where
   pub ports : Ported channels w.input n (inputs_at w n)
 
 -- node n can be released, with this next release
-pub record Releasable (channels : ℕ) (w : Wires) (n : ℕ) (before : Pending) : Type 0 where
+pub record Releasable (channels : ℕ) (w : Wires) (n : ℕ) (before : Seen) : Type 0 where
   pub few : n < 32
   pub readable : Readable channels w n
   pub early : before.next < 2 ^ 24

@@ -5,7 +5,8 @@ use native.Mathlib.Omega.{arith}
 use mathlib.Core.Bool.{Bool, true, false, cond}
 use mathlib.Core.List.{map}
 use mathlib.Core.Path.{◌≡◌, refl}
-use lib.ListN.{get_or, set}
+use lib.ListN.{get_or, set, get_or-map}
+use lib.Seq.{map-set}
 use lib.IntN.{ℤ, pos}
 use borrow.Author.Tests.{ltb-true, ltb-false}
 use Rattle.rules.specs.Kinds.{pattern}
@@ -13,7 +14,6 @@ use Rattle.layout.specs.declared.Plan.{Plan}
 use Rattle.layout.specs.declared.State.{State}
 use Rattle.layout.specs.declared.Sort.{Sort}
 use Rattle.layout.specs.Views.{channels_of, shape_of, cells_of, sort_number}
-use Rattle.layout.proofs.FieldLaws.{get_seen, set_seen}
 use Rattle.rings.specs.Rings.{Rings, wrapped, held_at, register_at, base_of, capacity_of, oldest_of}
 use Rattle.rings.specs.Access.{has_room_in, behind_in, put_in, full_by, taken_in, oldest_in, PutDone, TakeDone}
 use Rattle.rings.proofs.PutLaws.{put_register, put_room, put_full}
@@ -21,7 +21,7 @@ use Rattle.rings.proofs.TakeLaws.{take_register, take_queue, oldest_held}
 
 -- the sort of a channel, as it is seen and as the code reads it
 pub sort_seen : (p : Plan) (c : ℕ) → get_or (map sort_number p.sort) c 0 ≡ sort_number (get_or p.sort c Sort.Queue)
-sort_seen p c = get_seen sort_number p.sort c Sort.Queue
+sort_seen p c = get_or-map sort_number p.sort c Sort.Queue
 
 -- a write, by the outcomes of its two tests: a register, a queue with room, a queue without
 put_by : (p : Plan) (s : State) (c : ℕ) (v : ℤ) (full : ℕ) (register room : Bool) → register_at (shape_of p) c ≡ register → has_room_in p s c ≡ room → Rings (shape_of p) (cells_of s) → c < channels_of p → full ≤ channels_of p
@@ -34,14 +34,14 @@ put_by : (p : Plan) (s : State) (c : ℕ) (v : ℤ) (full : ℕ) (register room 
 put_by p s c v full true room e f rings h before =
     record {
       full = channels_of p;
-      wrote = rw (set_seen pattern s.tokens (base_of (shape_of p) c) v) (put_register (shape_of p) (cells_of s) c (pattern v) rings h e);
+      wrote = rw (map-set pattern s.tokens (base_of (shape_of p) c) v) (put_register (shape_of p) (cells_of s) c (pattern v) rings h e);
       least = omega arith;
       nodes = refl;
     }
 put_by p s c v full false true e f rings h before =
     record {
       full = channels_of p;
-      wrote = rw (set_seen pattern s.tokens (behind_in p s c) v) (put_room (shape_of p) (cells_of s) c (pattern v) rings h e (ltb-true _ _ f));
+      wrote = rw (map-set pattern s.tokens (behind_in p s c) v) (put_room (shape_of p) (cells_of s) c (pattern v) rings h e (ltb-true _ _ f));
       least = omega arith;
       nodes = refl;
     }
@@ -64,7 +64,7 @@ put_done {p} {s} {c = c} v {full = full} after answer rings h before =
 oldest : (p : Plan) (s : State) (c : ℕ) → 1 ≤ get_or (cells_of s).len c 0 → pattern (oldest_in p s c) ≡ oldest_of (held_at (shape_of p) (cells_of s) c)
 unfolding oldest_in
 oldest p s c some =
-    rw (← get_seen pattern s.tokens (base_of (shape_of p) c + get_or s.head c 0) (pos 0)) (oldest_held (shape_of p) (cells_of s) c some)
+    rw (← get_or-map pattern s.tokens (base_of (shape_of p) c + get_or s.head c 0) (pos 0)) (oldest_held (shape_of p) (cells_of s) c some)
 
 -- a take, by whether the channel is a register
 take_by : (p : Plan) (s : State) (c : ℕ) (register : Bool) → register_at (shape_of p) c ≡ register → Rings (shape_of p) (cells_of s) → c < channels_of p → 1 ≤ get_or (cells_of s).len c 0
