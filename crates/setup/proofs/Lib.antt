@@ -1,3 +1,12 @@
+pub mod FromFn
 pub mod SetupLaws
 pub mod NextLaws
 pub mod WalkDownLaws
+pub mod StartFields
+pub mod StartRings
+pub mod StartHeld
+pub mod StartStands
+pub mod StartWires
+pub mod StartAble
+pub mod StartLaws
+pub mod StartFits

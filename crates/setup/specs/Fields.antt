@@ -1,7 +1,7 @@
 -- The fields of a plan and of a state before the first instant, each as the network has it or as it is made of it. Assumes nothing.
-use Rattle.std.specs.Prelude.{ℕ, List, ◌≡◌, map, replicate, take, pos}
+use Rattle.std.specs.Prelude.{ℕ, ◌≤◌, ◌<◌, List, ◌≡◌, map, length, replicate, take, pos}
 use Rattle.rules.specs.declared.Channel.{Channel}
-use Rattle.rules.specs.Lists.{tab}
+use Rattle.rules.specs.Lists.{total, tab}
 use Rattle.rules.specs.Network.{node_among, channel_among}
 use Rattle.kinds.specs.Kind.{kind_number}
 use Rattle.kinds.specs.Nodes.{never}
@@ -14,6 +14,17 @@ use Rattle.setup.specs.Setup.{BasesOf, PortsOf, WalksOf, CountsOf, ReleasesOf}
 -- the channels that are there
 abbrev pub channels_in : Network → List Channel
 channels_in a = take a.channels a.channel
+
+-- what a network's arrays must be for that: the nodes and the channels are few, the rings together too, and sorts, ports and kinds are those of
+-- the list
+pub record Fits (a : Network) : Type 0 where
+  pub few_nodes : a.nodes ≤ 32
+  pub few_channels : a.channels ≤ 64
+  pub together : total (length (channels_in a)) (λ c. (channel_among (channels_in a) c).capacity) ≤ 1024
+  pub ports : (c : ℕ) → c < length (channels_in a) → (channel_among (channels_in a) c).port < 4
+  pub sorts : (c : ℕ) → c < 64 → (channel_among a.channel c).sort < 2
+  pub kinds : (n : ℕ) → n < 32 → (node_among a.node n).kind < 12
+  pub channels : length (channels_in a) ≡ a.channels
 
 -- a plan has how many nodes and channels there are, each channel's sort, ring and writer, each node's record and how many inputs it has, the
 -- walks, and the channels at the ports

@@ -1,14 +1,14 @@
 // The plan and the state of a run before its first instant, from a table that was read.
 #![tactic(auto)]
 
-ghost use Rattle.std.specs.Prelude.{◌≡◌, ℕ, ◌≤◌, ◌<◌, length};
-ghost use Rattle.rules.specs.Lists.{total};
-ghost use Rattle.rules.specs.Network.{Network as Rules, Obeys, channel_among};
+ghost use Rattle.std.specs.Prelude.{◌≡◌, ℕ, ◌≤◌, ◌<◌, length, map};
+ghost use Rattle.rules.specs.Lists.{tab, total};
+ghost use Rattle.rules.specs.Network.{Network as Rules, Obeys, node_among, channel_among};
 ghost use Rattle.kinds.specs.Kind.{kind_number};
 ghost use Rattle.layout.specs.Views.{sort_number};
 ghost use Rattle.table.specs.Laid.{laid};
 ghost use Rattle.setup.specs.Setup.{BasesOf, PortsOf, WalksOf, ReleasesOf};
-ghost use Rattle.setup.specs.Fields.{PlanFields, StateFields};
+ghost use Rattle.setup.specs.Fields.{Fits, PlanFields, StateFields};
 ghost use Rattle.setup.specs.Starts.{Lawful, Starts};
 
 use kinds::Kind;
@@ -21,7 +21,7 @@ use table::Network;
 // Nodes have numbers below this: any other, as a writer or a reader, is the outside.
 const OUTSIDE: u32 = 32;
 
-// ---- Of one channel or node
+// ---- Of the channels and the nodes
 
 fn sort_of(channel: &Channel) -> Sort
     requires { channel.now.sort < 2 }
@@ -33,14 +33,19 @@ fn sort_of(channel: &Channel) -> Sort
     }
 }
 
-fn kind_of(node: &Node) -> Kind
-    requires { node.now.kind < 12 }
-    ensures { kind_number result ≡ node.now.kind }
+fn sorts(channels: &[Channel; 64]) -> [Sort; 64]
+    requires { (c : ℕ) → c < 64 → (channel_among channels.now c).sort < 2 }
+    ensures { map sort_number result ≡ tab 64 (λ c. (channel_among channels.now c).sort) }
 {
-    Kind::try_from(node.kind).unwrap()
+    from_fn(|c| sort_of(&channels[c]))
 }
 
-// ---- Of the channels and the nodes together
+fn kinds(nodes: &[Node; 32]) -> [Kind; 32]
+    requires { (n : ℕ) → n < 32 → (node_among nodes.now n).kind < 12 }
+    ensures { map kind_number result ≡ tab 32 (λ n. (node_among nodes.now n).kind) }
+{
+    from_fn(|n| Kind::try_from(nodes[n].kind).unwrap())
+}
 
 // The base of each ring: the capacities of the channels before it together.
 fn bases(channels: &[Channel]) -> [u32; 64]
@@ -116,7 +121,7 @@ fn releases(nodes: usize) -> [u32; 32]
 // ---- The set-up
 
 fn plan(network: &Network) -> Plan
-    requires { Lawful network.now }
+    requires { Fits network.now }
     ensures { PlanFields network.now result }
 {
     let channels = &network.channel[..network.channels];
@@ -126,12 +131,12 @@ fn plan(network: &Network) -> Plan
         out,
         outs,
     } = walks(channels);
-    let kind = from_fn(|n| kind_of(&network.node[n]));
+    let kind = kinds(&network.node);
     Plan {
         nodes: network.nodes as u32,
         channels: network.channels as u32,
         out,
-        sort: from_fn(|c| sort_of(&network.channel[c])),
+        sort: sorts(&network.channel),
         base: bases(channels),
         capacity: from_fn(|c| network.channel[c].capacity),
         writer: from_fn(|c| network.channel[c].writer),
@@ -141,7 +146,7 @@ fn plan(network: &Network) -> Plan
         constant: from_fn(|n| network.node[n].constant),
         period: from_fn(|n| network.node[n].period),
         deadline: from_fn(|n| network.node[n].deadline),
-        count: from_fn(|n| kind[n].inputs()),
+        count: kind.map(|kind| kind.inputs()),
         first,
         input: inputs(channels),
     }
@@ -149,7 +154,7 @@ fn plan(network: &Network) -> Plan
 
 // Every ring begins at its base with its initial tokens, every node is released at 0, nothing waits, and each pair's earliest instant is 0.
 fn state(network: &Network) -> State
-    requires { Lawful network.now }
+    requires { Fits network.now }
     ensures { StateFields network.now result }
 {
     State {
