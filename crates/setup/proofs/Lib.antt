@@ -1,14 +1,12 @@
+pub mod FromFn
 pub mod SetupLaws
-pub mod LayLaws
 pub mod NextLaws
 pub mod WalkDownLaws
-pub mod PlanLaws
-pub mod PlanWhole
 pub mod StartFields
-pub mod StartFits
 pub mod StartRings
 pub mod StartHeld
 pub mod StartStands
 pub mod StartWires
 pub mod StartAble
 pub mod StartLaws
+pub mod StartFits

@@ -5,8 +5,8 @@ use native.Mathlib.Nat.{zero-add, add-zero}
 use native.Mathlib.Omega.{arith}
 use mathlib.Core.List.{List, [], ◌∷◌, map}
 use mathlib.Core.Path.{◌≡◌, refl, sym, ◌∙◌, ap, ap₂}
-use lib.IntN.{ℤ}
-use lib.ListN.{length, get_or, length-append, length-map, get_or-append}
+use lib.IntN.{ℤ, pos}
+use lib.ListN.{length, get_or, length-append, get_or-append}
 use lib.Seq.{get_or-append-add}
 use Rattle.rules.specs.declared.Channel.{Channel}
 use Rattle.rules.specs.Lists.{total}
@@ -64,26 +64,26 @@ length_all (ch ∷ chs) (held ∷ tokens) same within =
     rw (length-append, length_places ch held (within 0 (omega arith)), length_all chs tokens rest (λ d h. within (suc d) (omega arith)))
     (sym (total_front (length chs) (λ d. (channel_among (ch ∷ chs) d).capacity)))
 
-place_at : (ch : Channel) (held : List ℤ) (i : ℕ) → i < length held → get_or (places ch held) i 0 ≡ get_or (map pattern held) i 0
+place_at : (ch : Channel) (held : List ℤ) (i : ℕ) → i < length held → get_or (places ch held) i (pos 0) ≡ get_or held i (pos 0)
 unfolding places
-place_at ch held i h = get_or-append (map pattern held) _ 0 i (rw length-map h)
+place_at ch held i h = get_or-append held _ (pos 0) i h
 
 -- among all places, channel c's tokens stand behind the capacities of the channels before it
-places_at : (chs : List Channel) (tokens : List (List ℤ)) → length tokens ≡ length chs → Within chs tokens → (c : ℕ) → c < length chs → (i : ℕ) → i < length (get_or tokens c []) → get_or (all_places chs tokens) (capacities_of chs c + i) 0 ≡ get_or (map pattern (get_or tokens c [])) i 0
+places_at : (chs : List Channel) (tokens : List (List ℤ)) → length tokens ≡ length chs → Within chs tokens → (c : ℕ) → c < length chs → (i : ℕ) → i < length (get_or tokens c []) → get_or (all_places chs tokens) (capacities_of chs c + i) (pos 0) ≡ get_or (get_or tokens c []) i (pos 0)
 unfolding all_places total
 places_at [] tokens same within c h i k = absurd (omega arith)
 places_at (ch ∷ chs) [] same within c h i k = absurd (omega arith)
 places_at (ch ∷ chs) (held ∷ tokens) same within zero h i k =
     let size : length (places ch held) ≡ ch.capacity = length_places ch held (within 0 (omega arith)) in
     let there : i < length (places ch held) = omega (arith, within 0 (omega arith)) in
-    rw zero-add (get_or-append (places ch held) (all_places chs tokens) 0 i there ∙ place_at ch held i k)
+    rw zero-add (get_or-append (places ch held) (all_places chs tokens) (pos 0) i there ∙ place_at ch held i k)
 places_at (ch ∷ chs) (held ∷ tokens) same within (suc c) h i k =
     let rest : length tokens ≡ length chs = omega arith in
     let size : length (places ch held) ≡ ch.capacity = length_places ch held (within 0 (omega arith)) in
     let place : capacities_of (ch ∷ chs) (suc c) + i ≡ length (places ch held) + (capacities_of chs c + i)
     = omega (arith, total_front c (λ d. (channel_among (ch ∷ chs) d).capacity)) in
     rw place
-    (get_or-append-add (places ch held) (all_places chs tokens) (capacities_of chs c + i) 0
+    (get_or-append-add (places ch held) (all_places chs tokens) (capacities_of chs c + i) (pos 0)
     ∙ places_at chs tokens rest (λ d below. within (suc d) (omega arith)) c (omega arith) i k)
 
 -- the places of an obeying network
@@ -99,10 +99,10 @@ module _ (net : Network) (obeys : Obeys net) where
   all_places_law = length_padded 1024 (all_places net.channels net.tokens) (omega (arith, length_net, obeys.together))
 
   -- channel c's tokens stand from its base on
-  pub tokens_at : (c : ℕ) → c < length net.channels → (i : ℕ) → i < length (get_or net.tokens c []) → get_or (padded 1024 (all_places net.channels net.tokens)) (capacities net c + i) 0 ≡ get_or (map pattern (get_or net.tokens c [])) i 0
+  pub tokens_at : (c : ℕ) → c < length net.channels → (i : ℕ) → i < length (get_or net.tokens c []) → get_or (padded 1024 (all_places net.channels net.tokens)) (capacities net c + i) (pos 0) ≡ get_or (get_or net.tokens c []) i (pos 0)
   unfolding padded capacities
   tokens_at c h i k =
       let there : capacities net c + i < length (all_places net.channels net.tokens)
       = omega (arith, length_net, capacities_climb net c (length net.channels) h, tokens_within c h) in
-      get_or-append (all_places net.channels net.tokens) _ 0 (capacities net c + i) there
+      get_or-append (all_places net.channels net.tokens) _ (pos 0) (capacities net c + i) there
       ∙ places_at net.channels net.tokens obeys.held tokens_within c h i k

@@ -1,4 +1,4 @@
--- The arrays of a run say an obeying network's wiring: the walks over the channels of each node and to the outside, and the channel at each
+-- A plan says an obeying network's wiring: the walks over the channels of each node and to the outside, and the channel at each
 -- port. Assumes nothing.
 use Prim.Native.Nat.{ℕ, suc, ◌<◌}
 use native.Mathlib.Omega.{arith}
@@ -13,14 +13,12 @@ use Rattle.rules.specs.Kinds.{inputs}
 use Rattle.rules.specs.Network.{Network, Obeys, node_of, channel_of, is_out, serves}
 use Rattle.rules.proofs.Checks.{few_nodes, fields_of, end_node}
 use Rattle.rules.proofs.ListLaws.{by_test, and_left, and_right, lowest_is}
-use Rattle.table.specs.declared.Network as table
 use Rattle.rules.proofs.Agreeing.{lowest_ext}
 use Rattle.arrays.specs.Writes.{next_from, Walk}
 use Rattle.setup.specs.Setup.{inner_of, outer_of, PortsOf}
 use Rattle.arrays.specs.Taking.{port_of}
 use Rattle.arrays.specs.Represents.{writes_to}
 use Rattle.arrays.proofs.PortLaws.{port_there, read_at}
-use Rattle.setup.proofs.StartFields.{Entries}
 
 -- properties that agree below n have the same next numbers, and so the same walk
 next_ext : (n : ℕ) (f g : ℕ → Bool) (k : ℕ) → ((c : ℕ) → c < n → f c ≡ g c) → next_from n f k ≡ next_from n g k
@@ -75,22 +73,18 @@ module _ (net : Network) (obeys : Obeys net) where
       absurd (omega arith))
       (λ e. e)
 
-  module _ (a : table.Network) (entries : Entries net a) where
-    pub inner_walk : {first : ℕ} {follow : List ℕ} (n : ℕ) → Walk (length net.channels) follow first (inner_of a.channel.writer a.channel.reader n) → Walk (length net.channels) follow first (writes_to net n)
-    inner_walk n walk =
-        walk_ext (inner_of a.channel.writer a.channel.reader n) (writes_to net n) (λ c h. rw (entries.writer c h, entries.reader c h, reader_node c h)) walk
+  pub inner_walk : {first : ℕ} {follow : List ℕ} (n : ℕ) → Walk (length net.channels) follow first (inner_of net.channels n) → Walk (length net.channels) follow first (writes_to net n)
+  inner_walk n walk = walk_ext (inner_of net.channels n) (writes_to net n) (λ c h. rw (reader_node c h)) walk
 
-    pub outer_walk : {first : ℕ} {follow : List ℕ} → Walk (length net.channels) follow first (outer_of a.channel.reader) → Walk (length net.channels) follow first (λ c. is_out (channel_of net c))
-    outer_walk walk =
-        walk_ext (outer_of a.channel.reader) (λ c. is_out (channel_of net c)) (λ c h. rw (entries.reader c h, reader_node c h) (not-not (is_out (channel_of net c)))) walk
+  pub outer_walk : {first : ℕ} {follow : List ℕ} → Walk (length net.channels) follow first (outer_of net.channels) → Walk (length net.channels) follow first (λ c. is_out (channel_of net c))
+  outer_walk walk =
+      walk_ext (outer_of net.channels) (λ c. is_out (channel_of net c)) (λ c h. rw (reader_node c h) (not-not (is_out (channel_of net c)))) walk
 
-    -- the channel at each port, where the last one that serves a port stands there
-    pub input_port : {input : List ℕ} → PortsOf (length net.channels) a.channel.reader a.channel.port input → (n : ℕ) → n < length net.nodes → (p : ℕ) → p < inputs (node_of net n).kind → port_of input n p ≡ lowest (length net.channels) (serves net n p)
-    input_port ports n h p k =
-        let c = lowest (length net.channels) (serves net n p) in
-        let here = at_port_law n h p k in
-        let reader : get_or a.channel.reader c 0 ≡ n = entries.reader c here.there ∙ here.reader in
-        let port : get_or a.channel.port c 0 ≡ p = entries.port c here.there ∙ here.port in
-        rw (reader, port) at
-        (ports.last c here.there (omega (arith, few_nodes net obeys))
-        (λ d over under. rw (reader, port, entries.reader d under, entries.port d under) (alone n h p d over under)))
+  -- the channel at each port, where the last one that serves a port stands there
+  pub input_port : {input : List (List ℕ)} → PortsOf (length net.channels) net.channels input → (n : ℕ) → n < length net.nodes → (p : ℕ) → p < inputs (node_of net n).kind → port_of input n p ≡ lowest (length net.channels) (serves net n p)
+  input_port ports n h p k =
+      let c = lowest (length net.channels) (serves net n p) in
+      let here = at_port_law n h p k in
+      rw (here.reader, here.port) at
+      (ports.last c here.there (omega (arith, here.reader, few_nodes net obeys))
+      (λ d over under. rw (here.reader, here.port) (alone n h p d over under)))

@@ -3,14 +3,18 @@
 use Prim.Native.Nat.{ℕ, suc, ◌≤◌, ◌<◌}
 use native.Mathlib.Omega.{arith}
 use mathlib.Core.Bool.{Bool, true, false, and-false}
-use mathlib.Core.List.{List}
-use mathlib.Core.Path.{◌≡◌, sym, ◌∙◌, ap}
+use mathlib.Core.List.{List, ◌∷◌, [], ◌++◌, append-nil, append_assoc}
+use mathlib.Core.Path.{◌≡◌, refl, sym, ◌∙◌, ap}
 use lib.Dec.{eqb}
-use lib.ListN.{length, get_or, set, replicate, length-set, length-replicate, get_or-replicate}
+use lib.ListN.{length, get_or, set, replicate, length-append, length-set, length-replicate, get_or-replicate}
 use borrow.Author.Tests.{lt-ltb, le-ltb, eqb-true, eqb-false, eq-eqb, ne_eqb}
 use Rattle.rules.proofs.ListLaws.{by_test, and_both, true_or_false}
 use Rattle.arrays.specs.Writes.{next_from, Climbs}
-use Rattle.setup.specs.Setup.{inner_of, WalkOver, WalksOf}
+use Rattle.setup.specs.Setup.{inner_of, outer_of, WalkOver, WalksOf}
+use Rattle.std.specs.List.{push}
+use lib.Seq.{get_or-append_seam}
+use Rattle.rules.specs.declared.Channel.{Channel}
+use Rattle.rules.specs.Network.{channel_among}
 use Rattle.setup.proofs.SetupLaws.{at_set}
 use Rattle.setup.proofs.NextLaws.{next_none, next_here, next_behind}
 
@@ -45,8 +49,8 @@ climbs_set {n} {first} {follow} k v start climbs there within over begin =
     record {
       few = climbs.few;
       from = begin;
-      stays = λ c under. at_set (λ x. x < 64 → x < n) follow k v c there (λ e. within) (λ other. climbs.stays c under);
-      up = λ c under. at_set (λ x. c < x) follow k v c there (λ e. omega arith) (λ other. climbs.up c under);
+      stays = λ c under. at_set (λ x. x < 64 → x < n) 0 follow k v c there (λ e. within) (λ other. climbs.stays c under);
+      up = λ c under. at_set (λ x. c < x) 0 follow k v c there (λ e. omega arith) (λ other. climbs.up c under);
     }
 
 module _ {n k first : ℕ} {follow : List ℕ} {mine : ℕ → Bool} (down : WalkDown n (suc k) follow first mine) where
@@ -60,7 +64,7 @@ module _ {n k first : ℕ} {follow : List ℕ} {mine : ℕ → Bool} (down : Wal
         above = omega arith;
         starts = sym (next_here n mine k h holds);
         goes_on = λ c from under hold.
-            at_set (λ x. x ≡ next_from n mine (suc c)) follow k first c there
+            at_set (λ x. x ≡ next_from n mine (suc c)) 0 follow k first c there
             (λ e. down.starts ∙ ap (λ (i : ℕ). next_from n mine (suc i)) (sym e))
             (λ other. down.goes_on c (omega arith) under hold);
       }
@@ -89,7 +93,7 @@ module _ {n k first : ℕ} {follow : List ℕ} {mine : ℕ → Bool} (down : Wal
         above = omega arith;
         starts = (down_passes fails).starts;
         goes_on = λ c from under hold.
-            at_set (λ x. x ≡ next_from n mine (suc c)) follow k v c there
+            at_set (λ x. x ≡ next_from n mine (suc c)) 0 follow k v c there
             (λ e. true_or_false (sym (ap mine e) ∙ hold) fails)
             (λ other. (down_passes fails).goes_on c from under hold);
       }
@@ -102,47 +106,88 @@ down_ends down =
       climbs = down.climbs;
     }
 
--- the walks of all nodes from k on
-pub record WalksDown (n k : ℕ) (writer reader follow first : List ℕ) : Type 0 where
-  pub nodes : length first ≡ 32
-  pub walks : (m : ℕ) → m < 32 → WalkDown n k follow (get_or first m 0) (inner_of writer reader m)
+-- the walks of all nodes and the walk to the outside, from k on
+pub record WalksDown (channels : List Channel) (k : ℕ) (first follow : List ℕ) (first_out : ℕ) (follow_out : List ℕ) : Type 0 where
+  pub firsts : length first ≡ 32
+  pub walks : (m : ℕ) → m < 32 → WalkDown (length channels) k follow (get_or first m 0) (inner_of channels m)
+  pub outs : WalkDown (length channels) k follow_out first_out (outer_of channels)
 
-pub walks_none : (n : ℕ) (writer reader follow first : List ℕ) → n ≤ 64 → follow ≡ replicate 64 64 → first ≡ replicate 32 64 → WalksDown n n writer reader follow first
-walks_none n writer reader follow first h all ends =
+pub walks_none : (channels : List Channel) → length channels ≤ 64 → WalksDown channels (length channels) (replicate 32 64) (replicate 64 64) 64 (replicate 64 64)
+walks_none channels h =
     record {
-      nodes = rw ends (length-replicate {A = ℕ} 32 64);
-      walks = λ m under. down_none n follow (get_or first m 0) (inner_of writer reader m) h all (rw ends (get_or-replicate 32 m 64 0 under));
+      firsts = length-replicate {A = ℕ} 32 64;
+      walks = λ m under.
+          down_none (length channels) (replicate 64 64) (get_or (replicate 32 64) m 0) (inner_of channels m) h refl (get_or-replicate 32 m 64 0 under);
+      outs = down_none (length channels) (replicate 64 64) 64 (outer_of channels) h refl refl;
     }
 
-module _ {n k : ℕ} {writer reader follow first : List ℕ} (down : WalksDown n (suc k) writer reader follow first) where
-  -- channel k joins the walk of its writer w
-  pub walks_take : {w : ℕ} → w ≡ get_or writer k 0 → k < n → get_or reader k 0 < 32 → w < 32 → WalksDown n k writer reader (set follow k (get_or first w 0)) (set first w k)
-  walks_take {w} wrote h inner from =
-      let own = down.walks w from in
+module _ {channels : List Channel} {k : ℕ} {first follow : List ℕ} {first_out : ℕ} {follow_out : List ℕ} (down : WalksDown channels (suc k) first follow first_out follow_out) (h : k < length channels) where
+  -- no node reads channel k
+  pub walks_out : 32 ≤ (channel_among channels k).reader → WalksDown channels k first follow k (set follow_out k first_out)
+  walks_out outer =
       record {
-        nodes = length-set first w k ∙ down.nodes;
+        firsts = down.firsts;
         walks = λ m under.
-            at_set (λ x. WalkDown n k (set follow k (get_or first w 0)) x (inner_of writer reader m)) first w k m (omega (arith, down.nodes))
-            (λ e. rw e (down_takes own h (and_both (eq-eqb (get_or writer k 0) w (sym wrote)) (lt-ltb (get_or reader k 0) 32 inner))))
-            (λ other.
-            down_beside (down.walks m under) (get_or first w 0) h (rw (ne_eqb (get_or writer k 0) m (λ e. other (sym e ∙ sym wrote)))) own.climbs.from own.above);
+            down_passes (down.walks m under)
+            (rw (le-ltb (channel_among channels k).reader 32 outer) (and-false (eqb (channel_among channels k).writer m)));
+        outs = down_takes down.outs h (rw (le-ltb (channel_among channels k).reader 32 outer));
       }
 
-  -- no node reads channel k, or none writes it
-  pub walks_pass_reader : 32 ≤ get_or reader k 0 → WalksDown n k writer reader follow first
-  walks_pass_reader outer =
-      record {
-        nodes = down.nodes;
-        walks = λ m under.
-            down_passes (down.walks m under) (rw (le-ltb (get_or reader k 0) 32 outer) (and-false (eqb (get_or writer k 0) m)));
-      }
+  module _ (inner : (channel_among channels k).reader < 32) where
+    passes_out : WalkDown (length channels) k follow_out first_out (outer_of channels)
+    passes_out = down_passes down.outs (rw (lt-ltb (channel_among channels k).reader 32 inner))
 
-  pub walks_pass_writer : 32 ≤ get_or writer k 0 → WalksDown n k writer reader follow first
-  walks_pass_writer outer =
-      record {
-        nodes = down.nodes;
-        walks = λ m under. down_passes (down.walks m under) (rw (ne_eqb (get_or writer k 0) m (λ e. omega arith)));
-      }
+    -- it joins the walk of its writer w
+    pub walks_take : {w : ℕ} → w ≡ (channel_among channels k).writer → w < 32 → WalksDown channels k (set first w k) (set follow k (get_or first w 0)) first_out follow_out
+    walks_take {w} wrote from =
+        let own = down.walks w from in
+        record {
+          firsts = length-set first w k ∙ down.firsts;
+          walks = λ m under.
+              at_set (λ x. WalkDown (length channels) k (set follow k (get_or first w 0)) x (inner_of channels m)) 0 first w k m (omega (arith, down.firsts))
+              (λ e.
+              rw e
+              (down_takes own h (and_both (eq-eqb (channel_among channels k).writer w (sym wrote)) (lt-ltb (channel_among channels k).reader 32 inner))))
+              (λ other.
+              down_beside (down.walks m under) (get_or first w 0) h (rw (ne_eqb (channel_among channels k).writer m (λ e. other (sym e ∙ sym wrote)))) own.climbs.from own.above);
+          outs = passes_out;
+        }
 
-pub walks_end : {n : ℕ} {writer reader follow first : List ℕ} → WalksDown n 0 writer reader follow first → WalksOf n writer reader first follow
-walks_end down = record { firsts = down.nodes; follows = (down.walks 0 (omega arith)).size; walks = λ m under. down_ends (down.walks m under) }
+    -- none writes it
+    pub walks_pass : 32 ≤ (channel_among channels k).writer → WalksDown channels k first follow first_out follow_out
+    walks_pass outer =
+        record {
+          firsts = down.firsts;
+          walks = λ m under. down_passes (down.walks m under) (rw (ne_eqb (channel_among channels k).writer m (λ e. omega arith)));
+          outs = passes_out;
+        }
+
+pub walks_end : {channels : List Channel} {first follow : List ℕ} {first_out : ℕ} {follow_out : List ℕ} → WalksDown channels 0 first follow first_out follow_out → WalksOf (length channels) channels first follow first_out follow_out
+walks_end down = record { firsts = down.firsts; walks = λ m under. down_ends (down.walks m under); outs = down_ends down.outs }
+
+-- ---- The channels that are left
+
+-- channels that are the first ones of a list, and those behind them
+pub record FirstOnes (channels left : List Channel) : Type 0 where
+  pub behind : List Channel
+  pub all : channels ≡ left ++ behind
+
+pub all_first : {channels left : List Channel} → left ≡ channels → FirstOnes channels left
+all_first {channels} same = record { behind = []; all = rw same (sym (append-nil channels)) }
+
+-- where the last one of them is taken away
+pub record LastTaken (channels before left : List Channel) (last : Channel) : Type 0 where
+  pub first : FirstOnes channels left
+  pub one_more : length before ≡ suc (length left)
+  pub under : length left < length channels
+  pub there : channel_among channels (length left) ≡ last
+
+pub last_taken : {channels before left : List Channel} {last : Channel} → before ≡ push left last → FirstOnes channels before → LastTaken channels before left last
+last_taken {channels} {before} {left} {last} from first =
+    let all : channels ≡ left ++ (last ∷ first.behind) = first.all ∙ rw (from, append_assoc) refl in
+    record {
+      first = record { behind = last ∷ first.behind; all = all };
+      one_more = rw from (length-append left (last ∷ []) ∙ omega arith);
+      under = rw all (simp length-append (omega arith));
+      there = rw all (get_or-append_seam left last first.behind _);
+    }

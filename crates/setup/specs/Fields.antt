@@ -1,50 +1,55 @@
--- The fields of a plan and of a state before the first instant, each as the table has it or as it is made of it. Assumes nothing.
-use Rattle.std.specs.Prelude.{ℕ, List, ◌≡◌, get_or, replicate}
+-- The fields of a plan and of a state before the first instant, each as the network has it or as it is made of it. Assumes nothing.
+use Rattle.std.specs.Prelude.{ℕ, ◌≤◌, ◌<◌, List, ◌≡◌, map, length, replicate, take, pos}
+use Rattle.rules.specs.declared.Channel.{Channel}
+use Rattle.rules.specs.Lists.{total, tab}
+use Rattle.rules.specs.Network.{node_among, channel_among}
+use Rattle.kinds.specs.Kind.{kind_number}
 use Rattle.kinds.specs.Nodes.{never}
-use Rattle.layout.specs.Layout.{Cs, Ns, Ps, Ts, SORT, BASE, CAPACITY, WRITER, FOLLOW, OUTS, KIND, CONSTANT, PERIOD, DEADLINE, COUNT, FIRST, OUT, HEAD, LEN, TOKENS, NEXT, DUE, VALUE}
-use Rattle.layout.specs.Views.{part, nodes_of, channels_of, input_of, soons_of}
-use Rattle.setup.specs.Setup.{BasesOf, PortsOf, WalkOver, WalksOf, CountsOf, ReleasesOf, outer_of}
+use Rattle.table.specs.declared.Network.{Network}
+use Rattle.layout.specs.declared.Plan.{Plan}
+use Rattle.layout.specs.declared.State.{State}
+use Rattle.layout.specs.Views.{Cs, Ns, Ps, sort_number}
+use Rattle.setup.specs.Setup.{BasesOf, PortsOf, WalksOf, CountsOf, ReleasesOf}
 
--- ---- The fields of a plan
+-- the channels that are there
+abbrev pub channels_in : Network → List Channel
+channels_in a = take a.channels a.channel
 
--- each channel's sort, ring and writer
-pub record ChannelFields (channels : ℕ) (sorts capacities writers p : List ℕ) : Type 0 where
-  pub sort : part SORT Cs p ≡ sorts
-  pub base : BasesOf channels capacities (part BASE Cs p)
-  pub capacity : part CAPACITY Cs p ≡ capacities
-  pub writer : part WRITER Cs p ≡ writers
+-- what a network's arrays must be for that: the nodes and the channels are few, the rings together too, and sorts, ports and kinds are those of
+-- the list
+pub record Fits (a : Network) : Type 0 where
+  pub few_nodes : a.nodes ≤ 32
+  pub few_channels : a.channels ≤ 64
+  pub together : total (length (channels_in a)) (λ c. (channel_among (channels_in a) c).capacity) ≤ 1024
+  pub ports : (c : ℕ) → c < length (channels_in a) → (channel_among (channels_in a) c).port < 4
+  pub sorts : (c : ℕ) → c < 64 → (channel_among a.channel c).sort < 2
+  pub kinds : (n : ℕ) → n < 32 → (node_among a.node n).kind < 12
+  pub channels : length (channels_in a) ≡ a.channels
 
--- the walks, of which the one to the outside begins at a channel, and the channels at the ports
-pub record WireFields (channels : ℕ) (writers readers ports p : List ℕ) (out : ℕ) : Type 0 where
-  pub walks : WalksOf channels writers readers (part FIRST Ns p) (part FOLLOW Cs p)
-  pub outs : WalkOver channels (part OUTS Cs p) out (outer_of readers)
-  pub input : PortsOf channels readers ports (input_of p)
+-- a plan has how many nodes and channels there are, each channel's sort, ring and writer, each node's record and how many inputs it has, the
+-- walks, and the channels at the ports
+pub record PlanFields (a : Network) (p : Plan) : Type 0 where
+  pub nodes : p.nodes ≡ a.nodes
+  pub channels : p.channels ≡ a.channels
+  pub sort : map sort_number p.sort ≡ tab Cs (λ c. (channel_among a.channel c).sort)
+  pub base : BasesOf a.channels (channels_in a) p.base
+  pub capacity : p.capacity ≡ tab Cs (λ c. (channel_among a.channel c).capacity)
+  pub writer : p.writer ≡ tab Cs (λ c. (channel_among a.channel c).writer)
+  pub walks : WalksOf a.channels (channels_in a) p.first p.follow p.out p.outs
+  pub kind : map kind_number p.kind ≡ tab Ns (λ n. (node_among a.node n).kind)
+  pub constant : p.constant ≡ tab Ns (λ n. (node_among a.node n).constant)
+  pub period : p.period ≡ tab Ns (λ n. (node_among a.node n).period)
+  pub deadline : p.deadline ≡ tab Ns (λ n. (node_among a.node n).deadline)
+  pub count : CountsOf a.nodes (map kind_number p.kind) p.count
+  pub input : PortsOf a.channels (channels_in a) p.input
 
--- each node's record and how many inputs it has
-pub record NodeFields (nodes : ℕ) (kinds constants periods deadlines p : List ℕ) : Type 0 where
-  pub kind : part KIND Ns p ≡ kinds
-  pub constant : part CONSTANT Ns p ≡ constants
-  pub period : part PERIOD Ns p ≡ periods
-  pub deadline : part DEADLINE Ns p ≡ deadlines
-  pub count : CountsOf nodes kinds (part COUNT Ns p)
-
--- how many nodes and channels there are, and the first channel to the outside
-pub record NumberFields (nodes channels out : ℕ) (p : List ℕ) : Type 0 where
-  pub of_nodes : nodes_of p ≡ nodes
-  pub of_channels : channels_of p ≡ channels
-  pub first_out : get_or p OUT 0 ≡ out
-
--- ---- The fields of a state
-
--- every ring begins at its base with its initial tokens
-pub record RingsStart (initial tokens s : List ℕ) : Type 0 where
-  pub head : part HEAD Cs s ≡ replicate Cs 0
-  pub len : part LEN Cs s ≡ initial
-  pub token : part TOKENS Ts s ≡ tokens
-
--- every node is released at 0, nothing waits, and each pair's earliest instant is 0
-pub record NodesStart (nodes : ℕ) (s : List ℕ) : Type 0 where
-  pub next : ReleasesOf nodes Ns (part NEXT Ns s)
-  pub due : part DUE Ns s ≡ replicate Ns never
-  pub value : part VALUE Ns s ≡ replicate Ns 0
-  pub soon : soons_of s ≡ replicate Ps 0
+-- in a state every ring begins at its base with its initial tokens, every node is released at 0, nothing waits, and each pair's earliest
+-- instant is 0
+pub record StateFields (a : Network) (s : State) : Type 0 where
+  pub head : s.head ≡ replicate Cs 0
+  pub len : s.len ≡ tab Cs (λ c. (channel_among a.channel c).initial)
+  pub tokens : s.tokens ≡ a.tokens
+  pub next : ReleasesOf a.nodes Ns s.next
+  pub due : s.due ≡ replicate Ns never
+  pub value : s.value ≡ replicate Ns (pos 0)
+  pub soon : s.soon ≡ replicate Ps 0

@@ -1,27 +1,34 @@
--- A turn puts the channel before at the head of its writer's walk, or passes one that no node reads or writes.
-use Rattle.std.proofs.Common.{◌≡◌, ◌-◌, suc, arith}
-use Rattle.setup.proofs.WalkDownLaws.{walks_none, walks_take, walks_pass_writer, walks_pass_reader}
+-- A turn takes the last channel that is left. It puts it at the head of the walk to the outside or of its writer's walk, or passes one that no
+-- node writes.
+use Rattle.std.proofs.Common.{◌≡◌, ◌+◌, ◌∙◌, List, length, set, get_or, arith, ap}
+use Rattle.setup.proofs.WalkDownLaws.{LastTaken, all_first, walks_none, last_taken, walks_out, walks_take, walks_pass, walks_end}
 use Rattle.setup.proofs.walks.Goals as goal
 
-pub loop-left-init : goal.loop-left-init
-loop-left-init c =
-    let a = c.args in
-    (omega arith, walks_none a.channels a.writer.now a.reader.now a.follow.now a.first.now c.requires.0 c.requires.2 c.requires.1)
+pub loop-c-init : goal.loop-c-init
+loop-c-init c =
+    let count : c.into_iter-c-iterator.result.iter.count ≡ 0 = cc in
+    let all : c.into_iter-c-iterator.result.iter.iter.rest.now ≡ c.args.channels.now = cc in
+    (count, all_first all, rw all (walks_none c.args.channels.now c.requires))
 
-pub loop-left-preserved-then-n-lt32 : goal.loop-left-preserved-then-n-lt32
-loop-left-preserved-then-n-lt32 c =
-    let turn = c.loop-left in
-    let step : turn.left ≡ suc (turn.left - 1) = omega arith in
-    (omega arith, walks_take (rw step at turn.invariant.1) c.wide-n.ensures (omega arith) (omega arith) (omega arith))
+pub loop-c-preserved-then-channel-ge-OUTSIDE : goal.loop-c-preserved-then-channel-ge-OUTSIDE
+loop-c-preserved-then-channel-ge-OUTSIDE c =
+    let steps = c.in-Some.ensures.steps in
+    let taken = last_taken steps.1.0 c.loop-c.invariant.1 in
+    let here : c.in-Some.c ≡ length c.next.new.self.iter.iter.rest.now = omega arith in
+    (steps.0 ∙ c.loop-c.invariant.0, taken.first, rw (c.replace.ensures.after, c.replace.ensures.value, here) (walks_out (rw taken.one_more at c.loop-c.invariant.2) taken.under (rw taken.there (omega arith))))
 
-pub loop-left-preserved-else-n-lt32 : goal.loop-left-preserved-else-n-lt32
-loop-left-preserved-else-n-lt32 c =
-    let turn = c.loop-left in
-    let step : turn.left ≡ suc (turn.left - 1) = omega arith in
-    (omega arith, walks_pass_writer (rw step at turn.invariant.1) (omega (arith, c.wide-n.ensures)))
+pub loop-c-preserved-then-channel-lt-OUTSIDE : goal.loop-c-preserved-then-channel-lt-OUTSIDE
+loop-c-preserved-then-channel-lt-OUTSIDE c = 
+    let steps = c.in-Some.ensures.steps in
+    let taken = last_taken steps.1.0 c.loop-c.invariant.1 in
+    let here : c.in-Some.c ≡ length c.next.new.self.iter.iter.rest.now = omega arith in
+    (steps.0 ∙ c.loop-c.invariant.0, taken.first, rw (c.replace-then-channel-lt-OUTSIDE.ensures.after, c.replace-then-channel-lt-OUTSIDE.ensures.value, here) (walks_take (rw taken.one_more at c.loop-c.invariant.2) taken.under (rw taken.there (omega arith)) (rw taken.there (omega arith)) (omega arith)))
 
-pub loop-left-preserved : goal.loop-left-preserved
-loop-left-preserved c =
-    let turn = c.loop-left in
-    let step : turn.left ≡ suc (turn.left - 1) = omega arith in
-    (omega arith, walks_pass_reader (rw step at turn.invariant.1) (omega arith))
+pub loop-c-preserved : goal.loop-c-preserved
+loop-c-preserved c =
+    let steps = c.in-Some.ensures.steps in
+    let taken = last_taken steps.1.0 c.loop-c.invariant.1 in
+    (steps.0 ∙ c.loop-c.invariant.0, taken.first, walks_pass (rw taken.one_more at c.loop-c.invariant.2) taken.under (rw taken.there (omega arith)) (rw taken.there (omega arith)))
+
+pub returns : goal.returns
+returns c = walks_end (rw c.in-None.ensures.steps.1.0 at c.loop-c.invariant.2)
