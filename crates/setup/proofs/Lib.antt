@@ -10,3 +10,4 @@ pub mod StartWires
 pub mod StartAble
 pub mod StartLaws
 pub mod StartFits
+pub mod Stations

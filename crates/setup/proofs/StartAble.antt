@@ -2,14 +2,12 @@
 -- the same channel. Assumes nothing.
 use Prim.Native.Nat.{ℕ, ◌<◌}
 use native.Mathlib.Omega.{arith}
-use mathlib.Core.List.{List, map}
 use mathlib.Core.Path.{◌≡◌, sym, ◌∙◌, ap}
 use lib.ListN.{length, get_or}
 use borrow.Author.Tests.{ne_eqb}
 use Rattle.rules.specs.Kinds.{inputs}
 use Rattle.rules.specs.Network.{Network, Obeys, node_of, channel_of}
 use Rattle.arrays.specs.Taking.{port_of}
-use Rattle.kinds.specs.Kind.{kind_number}
 use Rattle.layout.specs.declared.Plan.{Plan}
 use Rattle.layout.specs.Views.{wires_of}
 use Rattle.arrays.specs.Nodes.{inputs_at, Readable, Separate}
@@ -25,7 +23,7 @@ port_of_one net here there same = (
 )
 
 module _ {net : Network} {p : Plan} (entries : Entries net p) (obeys : Obeys net) where
-  port_at : (n : ℕ) → n < length net.nodes → (q : ℕ) → q < inputs_at (wires_of p) n → AtPort net n q (port_of p.input n q)
+  port_at : (n : ℕ) → n < length net.nodes → (q : ℕ) → q < inputs_at (wires_of p) n → AtPort net n q (port_of (wires_of p).input n q)
   port_at n h q k =
       let there : q < inputs (node_of net n).kind = rw (entries.kind n h) at k in
       rw (input_port net obeys entries.input n h q there) (at_port_law net obeys n h q there)
@@ -40,10 +38,10 @@ module _ {net : Network} {p : Plan} (entries : Entries net p) (obeys : Obeys net
         deadline = omega (arith, entries.deadline n h, limits.deadline);
         counted = entries.count.each n h;
         ports = record {
-          few = inputs_few (get_or (map kind_number p.kind) n 0) (omega (arith, entries.kind n h, limits.kind));
+          few = inputs_few (get_or (wires_of p).kind n 0) (omega (arith, entries.kind n h, limits.kind));
           there = λ q k. (port_at n h q k).there;
           different = λ q r less k.
-              ne_eqb (port_of p.input n q) (port_of p.input n r)
+              ne_eqb (port_of (wires_of p).input n q) (port_of (wires_of p).input n r)
               (λ same. omega (arith, port_of_one net (port_at n h q (omega arith)) (port_at n h r k) same));
         };
       }
@@ -52,6 +50,6 @@ module _ {net : Network} {p : Plan} (entries : Entries net p) (obeys : Obeys net
   starts_separate =
       record {
         apart = λ m n less h q r k l.
-            ne_eqb (port_of p.input m q) (port_of p.input n r)
+            ne_eqb (port_of (wires_of p).input m q) (port_of (wires_of p).input n r)
             (λ same. omega (arith, port_of_one net (port_at m (omega arith) q k) (port_at n h r l) same));
       }

@@ -5,8 +5,7 @@ use native.Mathlib.Omega.{arith}
 use mathlib.Core.Bool.{true, false}
 use mathlib.Core.List.{List, map}
 use mathlib.Core.Path.{◌≡◌, ◌∙◌, ap}
-use lib.IntN.{pos}
-use lib.ListN.{length, get_or, get_or-map, replicate, take}
+use lib.ListN.{length, get_or, replicate, take}
 use borrow.Author.Tests.{not-true}
 use Rattle.std.proofs.lemmas.List.{ext_get_or, length-take-le, get_or-take}
 use Rattle.rules.specs.declared.Node.{Node}
@@ -17,11 +16,10 @@ use Rattle.rules.specs.Network.{Network, Obeys, node_of, channel_of, node_among,
 use Rattle.rules.proofs.Checks.{node_fields_law, few_nodes, few_channels}
 use Rattle.rules.proofs.KindLaws.{signed_pattern}
 use Rattle.rules.proofs.ListLaws.{get_or_tab, length_tab}
-use Rattle.kinds.specs.Kind.{kind_number}
 use Rattle.table.specs.Laid.{laid, all_places, padded}
 use Rattle.layout.specs.declared.Plan.{Plan}
 use Rattle.layout.specs.declared.State.{State}
-use Rattle.layout.specs.Views.{sort_number}
+use Rattle.layout.specs.Views.{sort_number, wires_of, ways_of, cells_of}
 use Rattle.setup.specs.Setup.{WalksOf, CountsOf, PortsOf}
 use Rattle.setup.specs.Fields.{PlanFields, StateFields, channels_in}
 
@@ -49,23 +47,23 @@ node_limits node ok =
 pub record Entries (net : Network) (p : Plan) : Type 0 where
   pub nodes : p.nodes ≡ length net.nodes
   pub channels : p.channels ≡ length net.channels
-  pub kind : (n : ℕ) → n < length net.nodes → get_or (map kind_number p.kind) n 0 ≡ (node_of net n).kind
-  pub constant : (n : ℕ) → n < length net.nodes → signed (get_or (map pattern p.constant) n 0) ≡ (node_of net n).constant
-  pub period : (n : ℕ) → n < length net.nodes → get_or p.period n 0 ≡ (node_of net n).period
-  pub deadline : (n : ℕ) → n < length net.nodes → get_or p.deadline n 0 ≡ (node_of net n).deadline
-  pub count : CountsOf (length net.nodes) (map kind_number p.kind) p.count
+  pub kind : (n : ℕ) → n < length net.nodes → get_or (wires_of p).kind n 0 ≡ (node_of net n).kind
+  pub constant : (n : ℕ) → n < length net.nodes → signed (get_or (wires_of p).constant n 0) ≡ (node_of net n).constant
+  pub period : (n : ℕ) → n < length net.nodes → get_or (wires_of p).period n 0 ≡ (node_of net n).period
+  pub deadline : (n : ℕ) → n < length net.nodes → get_or (wires_of p).deadline n 0 ≡ (node_of net n).deadline
+  pub count : CountsOf (length net.nodes) (wires_of p).kind (wires_of p).count
   pub sort : (c : ℕ) → c < length net.channels → get_or (map sort_number p.sort) c 0 ≡ (channel_of net c).sort
   pub base : (c : ℕ) → c < length net.channels → get_or p.base c 0 ≡ capacities net c
   pub capacity : (c : ℕ) → c < length net.channels → get_or p.capacity c 0 ≡ (channel_of net c).capacity
   pub writer : (c : ℕ) → c < length net.channels → get_or p.writer c 0 ≡ (channel_of net c).writer
-  pub walks : WalksOf (length net.channels) net.channels p.first p.follow p.out p.outs
-  pub input : PortsOf (length net.channels) net.channels p.input
+  pub walks : WalksOf (length net.channels) net.channels (ways_of p).first p.follow p.out p.outs
+  pub input : PortsOf (length net.channels) net.channels (wires_of p).input
 
 -- and a state those of its channels' initial tokens
 pub record Filled (net : Network) (s : State) : Type 0 where
-  pub head : s.head ≡ replicate 64 0
-  pub size : length s.len ≡ 64
-  pub initial : (c : ℕ) → c < length net.channels → get_or s.len c 0 ≡ (channel_of net c).initial
+  pub head : (cells_of s).head ≡ replicate 64 0
+  pub size : length (cells_of s).len ≡ 64
+  pub initial : (c : ℕ) → c < length net.channels → get_or (cells_of s).len c 0 ≡ (channel_of net c).initial
   pub tokens : s.tokens ≡ padded 1024 (all_places net.channels net.tokens)
 
 -- the first entries of a list that was tabulated
@@ -99,8 +97,7 @@ module _ (net : Network) (obeys : Obeys net) where
         channels = fields.channels;
         kind = λ n h. rw fields.kind (node_entry (λ node. node.kind) n 0 h);
         constant = λ n h.
-            rw (fields.constant, get_or-map pattern (tab 32 (λ m. (node_among (tab 32 (node_of net)) m).constant)) n (pos 0), node_entry (λ node. node.constant) n (pos 0) h)
-            (signed_pattern _ (obeys.constants n h));
+            rw (fields.constant, node_entry (λ node. pattern node.constant) n 0 h) (signed_pattern _ (obeys.constants n h));
         period = λ n h. rw fields.period (node_entry (λ node. node.period) n 0 h);
         deadline = λ n h. rw fields.deadline (node_entry (λ node. node.deadline) n 0 h);
         count = fields.count;

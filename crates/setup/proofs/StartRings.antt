@@ -20,7 +20,7 @@ unfolding capacities
 capacities_climb net c d h = sum_within d c (λ e. (channel_of net e).capacity) h
 
 -- every ring begins at its base
-pub head_at : {net : Network} {s : State} → Obeys net → Filled net s → (c : ℕ) → c < length net.channels → get_or s.head c 0 ≡ 0
+pub head_at : {net : Network} {s : State} → Obeys net → Filled net s → (c : ℕ) → c < length net.channels → get_or (cells_of s).head c 0 ≡ 0
 head_at {net} obeys filled c h = rw filled.head (get_or-replicate 64 c 0 0 (omega (arith, few_channels net obeys)))
 
 module _ {net : Network} {p : Plan} (entries : Entries net p) (obeys : Obeys net) where

@@ -51,7 +51,7 @@ module _ {net : Network} (obeys : Obeys net) (s : State) where
         let held = get_or net.tokens c [] in
         let places = padded 1024 (all_places net.channels net.tokens) in
         let long : length (map pattern held) ≡ length held = length-map held pattern in
-        let len : get_or s.len c 0 ≡ length (map pattern held) = filled.initial c h ∙ sym (obeys.initially c h) ∙ sym long in
+        let len : get_or (cells_of s).len c 0 ≡ length (map pattern held) = filled.initial c h ∙ sym (obeys.initially c h) ∙ sym long in
         let straight : queue_of (map pattern places) (capacities net c) (get_or p.capacity c 0) 0 (length (map pattern held)) ≡ map pattern held
         = queue_straight (map pattern held) (map pattern places) (capacities net c) (get_or p.capacity c 0) 0
         (omega (arith, obeys.initially c h, entries.capacity c h, (fields_of net obeys c h).within))

@@ -6,10 +6,23 @@ use Rattle.rules.specs.Network.{node_among, channel_among}
 use Rattle.kinds.specs.Kind.{kind_number}
 use Rattle.kinds.specs.Nodes.{never}
 use Rattle.table.specs.declared.Network.{Network}
+use Rattle.rules.specs.declared.Node.{Node}
+use Rattle.layout.specs.declared.Station.{Station}
+use Rattle.rules.specs.Kinds.{pattern, inputs}
 use Rattle.layout.specs.declared.Plan.{Plan}
 use Rattle.layout.specs.declared.State.{State}
-use Rattle.layout.specs.Views.{Cs, Ns, Ps, sort_number}
+use Rattle.layout.specs.Views.{Cs, Ns, Ps, sort_number, wires_of, ways_of, cells_of}
 use Rattle.setup.specs.Setup.{BasesOf, PortsOf, WalksOf, CountsOf, ReleasesOf}
+
+-- a node's part of a plan: its record by its bits, how many inputs it has, and where its walk and its ports begin
+pub record StationOf (node : Node) (first : ℕ) (input : List ℕ) (s : Station) : Type 0 where
+  pub kind : kind_number s.kind ≡ node.kind
+  pub constant : s.constant ≡ node.constant
+  pub period : s.period ≡ node.period
+  pub deadline : s.deadline ≡ node.deadline
+  pub count : s.count ≡ inputs node.kind
+  pub first_is : s.first ≡ first
+  pub input_is : s.input ≡ input
 
 -- the channels that are there
 abbrev pub channels_in : Network → List Channel
@@ -35,19 +48,19 @@ pub record PlanFields (a : Network) (p : Plan) : Type 0 where
   pub base : BasesOf a.channels (channels_in a) p.base
   pub capacity : p.capacity ≡ tab Cs (λ c. (channel_among a.channel c).capacity)
   pub writer : p.writer ≡ tab Cs (λ c. (channel_among a.channel c).writer)
-  pub walks : WalksOf a.channels (channels_in a) p.first p.follow p.out p.outs
-  pub kind : map kind_number p.kind ≡ tab Ns (λ n. (node_among a.node n).kind)
-  pub constant : p.constant ≡ tab Ns (λ n. (node_among a.node n).constant)
-  pub period : p.period ≡ tab Ns (λ n. (node_among a.node n).period)
-  pub deadline : p.deadline ≡ tab Ns (λ n. (node_among a.node n).deadline)
-  pub count : CountsOf a.nodes (map kind_number p.kind) p.count
-  pub input : PortsOf a.channels (channels_in a) p.input
+  pub walks : WalksOf a.channels (channels_in a) (ways_of p).first p.follow p.out p.outs
+  pub kind : (wires_of p).kind ≡ tab Ns (λ n. (node_among a.node n).kind)
+  pub constant : (wires_of p).constant ≡ tab Ns (λ n. pattern (node_among a.node n).constant)
+  pub period : (wires_of p).period ≡ tab Ns (λ n. (node_among a.node n).period)
+  pub deadline : (wires_of p).deadline ≡ tab Ns (λ n. (node_among a.node n).deadline)
+  pub count : CountsOf a.nodes (wires_of p).kind (wires_of p).count
+  pub input : PortsOf a.channels (channels_in a) (wires_of p).input
 
 -- in a state every ring begins at its base with its initial tokens, every node is released at 0, nothing waits, and each pair's earliest
 -- instant is 0
 pub record StateFields (a : Network) (s : State) : Type 0 where
-  pub head : s.head ≡ replicate Cs 0
-  pub len : s.len ≡ tab Cs (λ c. (channel_among a.channel c).initial)
+  pub head : (cells_of s).head ≡ replicate Cs 0
+  pub len : (cells_of s).len ≡ tab Cs (λ c. (channel_among a.channel c).initial)
   pub tokens : s.tokens ≡ a.tokens
   pub next : ReleasesOf a.nodes Ns s.next
   pub due : s.due ≡ replicate Ns never

@@ -8,11 +8,11 @@ ghost use Rattle.kinds.specs.Kind.{kind_number};
 ghost use Rattle.layout.specs.Views.{sort_number};
 ghost use Rattle.table.specs.Laid.{laid};
 ghost use Rattle.setup.specs.Setup.{BasesOf, PortsOf, WalksOf, ReleasesOf};
-ghost use Rattle.setup.specs.Fields.{Fits, PlanFields, StateFields};
+ghost use Rattle.setup.specs.Fields.{Fits, StationOf, PlanFields, StateFields};
 ghost use Rattle.setup.specs.Starts.{Lawful, Starts};
 
 use kinds::Kind;
-use layout::{NONE, Plan, Sort, State};
+use layout::{NONE, Plan, Ring, Sort, State, Station};
 use rules::{Channel, Node};
 use std::array::from_fn;
 use std::mem;
@@ -38,13 +38,6 @@ fn sorts(channels: &[Channel; 64]) -> [Sort; 64]
     ensures { map sort_number result ≡ tab 64 (λ c. (channel_among channels.now c).sort) }
 {
     from_fn(|c| sort_of(&channels[c]))
-}
-
-fn kinds(nodes: &[Node; 32]) -> [Kind; 32]
-    requires { (n : ℕ) → n < 32 → (node_among nodes.now n).kind < 12 }
-    ensures { map kind_number result ≡ tab 32 (λ n. (node_among nodes.now n).kind) }
-{
-    from_fn(|n| Kind::try_from(nodes[n].kind).unwrap())
 }
 
 // The base of each ring: the capacities of the channels before it together.
@@ -118,6 +111,23 @@ fn releases(nodes: usize) -> [u32; 32]
     next
 }
 
+// A node's part of the plan.
+fn station(node: Node, first: u32, input: [u32; 4]) -> Station
+    requires { node.kind < 12 }
+    ensures { StationOf node first input result }
+{
+    let kind = Kind::try_from(node.kind).unwrap();
+    Station {
+        kind,
+        constant: node.constant,
+        period: node.period,
+        deadline: node.deadline,
+        count: kind.inputs(),
+        first,
+        input,
+    }
+}
+
 // ---- The set-up
 
 fn plan(network: &Network) -> Plan
@@ -131,24 +141,18 @@ fn plan(network: &Network) -> Plan
         out,
         outs,
     } = walks(channels);
-    let kind = kinds(&network.node);
+    let input = inputs(channels);
     Plan {
         nodes: network.nodes as u32,
         channels: network.channels as u32,
         out,
+        node: from_fn(|n| station(network.node[n], first[n], input[n])),
         sort: sorts(&network.channel),
         base: bases(channels),
         capacity: from_fn(|c| network.channel[c].capacity),
         writer: from_fn(|c| network.channel[c].writer),
         follow,
         outs,
-        kind,
-        constant: from_fn(|n| network.node[n].constant),
-        period: from_fn(|n| network.node[n].period),
-        deadline: from_fn(|n| network.node[n].deadline),
-        count: kind.map(|kind| kind.inputs()),
-        first,
-        input: inputs(channels),
     }
 }
 
@@ -158,8 +162,10 @@ fn state(network: &Network) -> State
     ensures { StateFields network.now result }
 {
     State {
-        head: [0; 64],
-        len: from_fn(|c| network.channel[c].initial),
+        ring: from_fn(|c| Ring {
+            head: 0,
+            len: network.channel[c].initial,
+        }),
         tokens: network.tokens,
         next: releases(network.nodes),
         due: [kinds::NEVER; 32],

@@ -1,35 +1,35 @@
 -- Each field is as the network has it or as it is made of it.
-use Rattle.std.proofs.Common.{◌≡◌, refl, rules, pos, arith, ◌<◌}
-use Rattle.std.proofs.Math.ListN.{get_or-map}
-use Rattle.kinds.specs.declared.Kind.{Kind}
-use Rattle.kinds.specs.Kind.{kind_number}
-use Rattle.layout.specs.declared.Sort.{Sort}
-use Rattle.layout.specs.Views.{sort_number}
+use Rattle.std.proofs.Common.{◌≡◌, refl, rules, arith}
+use Rattle.rules.specs.Kinds.{inputs}
+use Rattle.rules.specs.Network.{node_among}
+use Rattle.rules.proofs.ListLaws.{get_or_tab, length_tab}
 use Rattle.table.specs.declared.Network.{Network}
-use Rattle.setup.proofs.FromFn.{tabled, tabled_seen}
+use Rattle.setup.proofs.FromFn.{tabled}
+use Rattle.setup.proofs.Stations.{stations_of}
 use Rattle.setup.proofs.plan.Goals as goal
 
 pub returns : goal.returns
 returns c =
     let a : Network = c.args.network.now in
+    let node = stations_of (λ p. (p.0.now ≡ a) × (p.1.now ≡ c.walks-out.result.first) × (p.2.now ≡ c.inputs-input.result)) a.node c.walks-out.result.first c.inputs-input.result
+    (λ p q i y kept called. search rules)
+    c.from_fn.ensures.items (refl, refl, refl) c.walks-out.ensures.firsts c.inputs-input.ensures.nodes in
     record {
       nodes = refl;
       channels = refl;
       sort = c.sorts.ensures;
       base = rw c.requires.channels at c.bases.ensures;
-      capacity = tabled (λ p. p.0.now ≡ a) _ (λ p q i y kept called. search rules) 0 c.from_fn.ensures.items refl;
-      writer = tabled (λ p. p.0.now ≡ a) _ (λ p q i y kept called. search rules) 0 c.from_fn-2.ensures.items refl;
-      walks = rw c.requires.channels at c.walks-out.ensures;
-      kind = c.kinds-kind.ensures;
-      constant = tabled (λ p. p.0.now ≡ a) _ (λ p q i y kept called. search rules) (pos 0) c.from_fn-3.ensures.items refl;
-      period = tabled (λ p. p.0.now ≡ a) _ (λ p q i y kept called. search rules) 0 c.from_fn-4.ensures.items refl;
-      deadline = tabled (λ p. p.0.now ≡ a) _ (λ p q i y kept called. search rules) 0 c.from_fn-5.ensures.items refl;
-      count = record {
-        size = c.map.ensures.items.long;
-        each = λ i h.
-            let there : i < 32 = omega arith in
-            let called = (c.map.ensures.items.at i Kind.Constant 0 there).2 in
-            rw (get_or-map kind_number c.kinds-kind.result i Kind.Constant) (search rules);
-      };
-      input = rw c.requires.channels at c.inputs.ensures;
+      capacity = tabled (λ p. p.0.now ≡ a) _ (λ p q i y kept called. search rules) 0 c.from_fn-2.ensures.items refl;
+      writer = tabled (λ p. p.0.now ≡ a) _ (λ p q i y kept called. search rules) 0 c.from_fn-3.ensures.items refl;
+      walks = rw node.first_is (rw c.requires.channels at c.walks-out.ensures);
+      kind = node.kind;
+      constant = node.constant;
+      period = node.period;
+      deadline = node.deadline;
+      count = rw (node.kind, node.count)
+          (record {
+            size = length_tab 32 (λ n. inputs (node_among a.node n).kind);
+            each = λ i h. rw (get_or_tab 32 (λ n. inputs (node_among a.node n).kind) i 0 (omega arith), get_or_tab 32 (λ n. (node_among a.node n).kind) i 0 (omega arith));
+          });
+      input = rw node.input_is (rw c.requires.channels at c.inputs-input.ensures);
     }

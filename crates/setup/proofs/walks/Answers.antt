@@ -1,7 +1,7 @@
 -- A turn takes the last channel that is left. It puts it at the head of the walk to the outside or of its writer's walk, or passes one that no
 -- node writes.
-use Rattle.std.proofs.Common.{◌≡◌, ◌+◌, ◌∙◌, List, length, set, get_or, arith, ap}
-use Rattle.setup.proofs.WalkDownLaws.{LastTaken, all_first, walks_none, last_taken, walks_out, walks_take, walks_pass, walks_end}
+use Rattle.std.proofs.Common.{◌≡◌, ◌∙◌, length, arith}
+use Rattle.setup.proofs.WalkDownLaws.{all_first, walks_none, last_taken, walks_out, walks_take, walks_pass, walks_end}
 use Rattle.setup.proofs.walks.Goals as goal
 
 pub loop-c-init : goal.loop-c-init
@@ -18,7 +18,7 @@ loop-c-preserved-then-channel-ge-OUTSIDE c =
     (steps.0 ∙ c.loop-c.invariant.0, taken.first, rw (c.replace.ensures.after, c.replace.ensures.value, here) (walks_out (rw taken.one_more at c.loop-c.invariant.2) taken.under (rw taken.there (omega arith))))
 
 pub loop-c-preserved-then-channel-lt-OUTSIDE : goal.loop-c-preserved-then-channel-lt-OUTSIDE
-loop-c-preserved-then-channel-lt-OUTSIDE c = 
+loop-c-preserved-then-channel-lt-OUTSIDE c =
     let steps = c.in-Some.ensures.steps in
     let taken = last_taken steps.1.0 c.loop-c.invariant.1 in
     let here : c.in-Some.c ≡ length c.next.new.self.iter.iter.rest.now = omega arith in
