@@ -1,6 +1,6 @@
 -- A walk that is made from the last channel down: from k on it leads from each channel with the property to the next one, and it climbs. At 0
 -- it is whole. The walks of all nodes are made together: a channel joins its writer's walk and leaves the others. Assumes nothing.
-use Prim.Native.Nat.{ℕ, suc, ◌≤◌, ◌<◌}
+use Prim.Native.Nat.{ℕ, suc, ◌+◌, ◌≤◌, ◌<◌}
 use native.Mathlib.Omega.{arith}
 use mathlib.Core.Bool.{Bool, true, false, and-false}
 use mathlib.Core.List.{List, ◌∷◌, [], ◌++◌, append-nil, append_assoc}
@@ -165,29 +165,53 @@ module _ {channels : List Channel} {k : ℕ} {first follow : List ℕ} {first_ou
 pub walks_end : {channels : List Channel} {first follow : List ℕ} {first_out : ℕ} {follow_out : List ℕ} → WalksDown channels 0 first follow first_out follow_out → WalksOf (length channels) channels first follow first_out follow_out
 walks_end down = record { firsts = down.firsts; walks = λ m under. down_ends (down.walks m under); outs = down_ends down.outs }
 
--- ---- The channels that are left
+-- ---- The loop over the channels, the last one first
 
--- channels that are the first ones of a list, and those behind them
-pub record FirstOnes (channels left : List Channel) : Type 0 where
+-- these channels are left, the first ones, and the walks are made behind them
+pub record WalksLeft (channels : List Channel) (count : ℕ) (left : List Channel) (first follow : List ℕ) (first_out : ℕ) (follow_out : List ℕ) : Type 0 where
+  pub from : count ≡ 0
   pub behind : List Channel
   pub all : channels ≡ left ++ behind
+  pub down : WalksDown channels (length left) first follow first_out follow_out
 
-pub all_first : {channels left : List Channel} → left ≡ channels → FirstOnes channels left
-all_first {channels} same = record { behind = []; all = rw same (sym (append-nil channels)) }
+pub left_all : {channels left : List Channel} {count : ℕ} → count ≡ 0 → left ≡ channels → length channels ≤ 64 → WalksLeft channels count left (replicate 32 64) (replicate 64 64) 64 (replicate 64 64)
+left_all {channels} zero same h =
+    record { from = zero; behind = []; all = rw same (sym (append-nil channels)); down = rw same (walks_none channels h) }
 
--- where the last one of them is taken away
-pub record LastTaken (channels before left : List Channel) (last : Channel) : Type 0 where
-  pub first : FirstOnes channels left
-  pub one_more : length before ≡ suc (length left)
-  pub under : length left < length channels
-  pub there : channel_among channels (length left) ≡ last
+-- a turn takes the last one of them, channel c
+module _ {channels left : List Channel} {count then c first_out : ℕ} {first follow follow_out : List ℕ} (rest : List Channel) (last : Channel) (before : WalksLeft channels count left first follow first_out follow_out) (takes : (then ≡ count) × ((left ≡ push rest last) × (c ≡ count + length rest) × (c + 1 < 18446744073709551616))) where
+  rest_all : channels ≡ rest ++ (last ∷ before.behind)
+  rest_all = before.all ∙ rw (takes.1.0, append_assoc) refl
 
-pub last_taken : {channels before left : List Channel} {last : Channel} → before ≡ push left last → FirstOnes channels before → LastTaken channels before left last
-last_taken {channels} {before} {left} {last} from first =
-    let all : channels ≡ left ++ (last ∷ first.behind) = first.all ∙ rw (from, append_assoc) refl in
-    record {
-      first = record { behind = last ∷ first.behind; all = all };
-      one_more = rw from (length-append left (last ∷ []) ∙ omega arith);
-      under = rw all (simp length-append (omega arith));
-      there = rw all (get_or-append_seam left last first.behind _);
-    }
+  rest_there : channel_among channels (length rest) ≡ last
+  rest_there = rw rest_all (get_or-append_seam rest last before.behind _)
+
+  rest_under : length rest < length channels
+  rest_under = rw rest_all (simp length-append (omega arith))
+
+  rest_down : WalksDown channels (suc (length rest)) first follow first_out follow_out
+  rest_down =
+      let more : length left ≡ suc (length rest) = rw takes.1.0 (length-append rest (last ∷ []) ∙ omega arith) in
+      rw more at before.down
+
+  rest_here : c ≡ length rest
+  rest_here = omega (arith, before.from)
+
+  rest_left : {first' follow' follow_out' : List ℕ} {first_out' : ℕ} → WalksDown channels (length rest) first' follow' first_out' follow_out' → WalksLeft channels then rest first' follow' first_out' follow_out'
+  rest_left down = record { from = takes.0 ∙ before.from; behind = last ∷ before.behind; all = rest_all; down = down }
+
+  pub left_out : {head next : ℕ} → 32 ≤ last.reader → head ≡ c → next ≡ first_out → WalksLeft channels then rest first follow head (set follow_out c next)
+  left_out outer is was = rest_left (rw (is, was, rest_here) (walks_out rest_down rest_under (rw rest_there outer)))
+
+  module _ (inner : last.reader < 32) where
+    pub left_take : {head next : ℕ} → last.writer < 32 → head ≡ c → next ≡ get_or first last.writer 0 → WalksLeft channels then rest (set first last.writer head) (set follow c next) first_out follow_out
+    left_take from is was =
+        rest_left
+        (rw (is, was, rest_here)
+        (walks_take rest_down rest_under (rw rest_there inner) (ap (λ (ch : Channel). ch.writer) (sym rest_there)) from))
+
+    pub left_pass : 32 ≤ last.writer → WalksLeft channels then rest first follow first_out follow_out
+    left_pass outer = rest_left (walks_pass rest_down rest_under (rw rest_there inner) (rw rest_there outer))
+
+pub left_none : {channels left : List Channel} {count : ℕ} {first follow : List ℕ} {first_out : ℕ} {follow_out : List ℕ} → WalksLeft channels count left first follow first_out follow_out → length left ≡ 0 → WalksOf (length channels) channels first follow first_out follow_out
+left_none walks none = walks_end (rw none at walks.down)
