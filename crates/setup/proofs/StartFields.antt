@@ -11,7 +11,6 @@ use Rattle.rules.specs.declared.Channel.{Channel}
 use Rattle.rules.specs.Lists.{tab}
 use Rattle.rules.specs.Kinds.{signed, pattern, is_zero, constant_ok}
 use Rattle.rules.specs.Network.{Network, Obeys, node_of, channel_of, node_ok}
-use Rattle.rules.specs.Table.{read}
 use Rattle.rules.proofs.Checks.{node_fields_law, few_nodes, few_channels}
 use Rattle.rules.proofs.KindLaws.{signed_pattern}
 use Rattle.rules.proofs.ListLaws.{get_or_tab, length_tab}
@@ -62,7 +61,7 @@ module _ (net : Network) (obeys : Obeys net) where
   channel_entry : (f : Channel → ℕ) (c : ℕ) → c < length net.channels → get_or (tab 64 (λ d. f (channel_of net d))) c 0 ≡ f (channel_of net c)
   channel_entry f c h = get_or_tab 64 (λ d. f (channel_of net d)) c 0 (omega (arith, few_channels net obeys))
 
-  pub laid_entries : Entries net (laid (read net))
+  pub laid_entries : Entries net (laid net)
   unfolding laid node_arrays channel_arrays
   laid_entries =
       record {

@@ -5,7 +5,6 @@ use native.Mathlib.Omega.{arith}
 use lib.ListN.{length, get_or}
 use Rattle.rules.specs.Kinds.{pattern}
 use Rattle.rules.specs.Network.{Network, Obeys, node_of, channel_of, capacities}
-use Rattle.rules.specs.Table.{read}
 use Rattle.rules.proofs.Checks.{few_nodes, few_channels}
 use Rattle.rules.proofs.ListLaws.{total_ext, length_tab}
 use Rattle.table.specs.declared.Network as table
@@ -19,7 +18,7 @@ pub record Fits (a : table.Network) : Type 0 where
   pub ports : (c : ℕ) → c < a.channels → get_or a.channel.port c 0 < 4
   pub nodes : NodesFit a.nodes a.node.kind a.node.constant a.node.period a.node.deadline
 
-laid_fits : (net : Network) → Obeys net → Fits (laid (read net))
+laid_fits : (net : Network) → Obeys net → Fits (laid net)
 unfolding laid node_arrays channel_arrays capacities
 laid_fits net obeys =
     let entries = laid_entries net obeys in

@@ -8,7 +8,6 @@ use lib.ListN.{length, get_or, length-replicate, get_or-replicate}
 use Rattle.rules.specs.Kinds.{inputs}
 use Rattle.rules.specs.Network.{Network, Obeys, node_of}
 use Rattle.rules.specs.Instant.{at_start}
-use Rattle.rules.specs.Table.{read}
 use Rattle.rules.proofs.Checks.{few_nodes}
 use Rattle.kinds.specs.Nodes.{never}
 use Rattle.table.specs.declared.Network as table
@@ -48,13 +47,13 @@ module _ {nodes : ℕ} {s : List ℕ} (few : nodes ≤ 32) (start : NodesStart n
       let soon : get_or (soons_of s) g 0 ≡ 0 = rw start.soon (get_or-replicate 16 g 0 0 (omega arith)) in
       omega (arith, start.next.first (2 * g) (omega arith))
 
-module _ (net : Network) (obeys : Obeys net) (out : ℕ) (p : List ℕ) (plan : PlanFields (laid (read net)) out p) where
-  entries : Entries net (laid (read net))
+module _ (net : Network) (obeys : Obeys net) (out : ℕ) (p : List ℕ) (plan : PlanFields (laid net) out p) where
+  entries : Entries net (laid net)
   entries = laid_entries net obeys
 
   at : (n : ℕ) → n < length net.nodes → (q : ℕ) → q < inputs (node_of net n).kind → AtPort net n q (port_of (input_of p) n q)
   unfolding laid
-  at n h q k = rw (input_port net obeys (laid (read net)) entries plan.wires.input n h q k) (at_port_law net obeys n h q k)
+  at n h q k = rw (input_port net obeys (laid net) entries plan.wires.input n h q k) (at_port_law net obeys n h q k)
 
   plan_stands : Planned net p
   unfolding laid
@@ -67,8 +66,8 @@ module _ (net : Network) (obeys : Obeys net) (out : ℕ) (p : List ℕ) (plan : 
               few = few_nodes net obeys;
               walks = λ n h. (plan.wires.walks.walks n (omega (arith, few_nodes net obeys))).climbs;
               outs = plan.wires.outs.climbs;
-              readable = starts_readable net (laid (read net)) entries (part COUNT Ns p) (input_of p) plan.nodes.count at obeys;
-              separate = starts_separate net (laid (read net)) entries (part COUNT Ns p) (input_of p) plan.nodes.count at;
+              readable = starts_readable net (laid net) entries (part COUNT Ns p) (input_of p) plan.nodes.count at obeys;
+              separate = starts_separate net (laid net) entries (part COUNT Ns p) (input_of p) plan.nodes.count at;
             });
         wired = rw
             (plan.numbers.of_channels, plan.numbers.first_out, plan.channels.sort, plan.channels.capacity, plan.channels.writer, plan.nodes.kind, plan.nodes.constant, plan.nodes.period, plan.nodes.deadline)
@@ -81,19 +80,19 @@ module _ (net : Network) (obeys : Obeys net) (out : ℕ) (p : List ℕ) (plan : 
               constant = entries.constant;
               period = entries.period;
               deadline = entries.deadline;
-              ports = input_port net obeys (laid (read net)) entries plan.wires.input;
-              walks = λ n h. inner_walk net obeys (laid (read net)) entries n (plan.wires.walks.walks n (omega (arith, few_nodes net obeys))).walk;
-              outs = outer_walk net obeys (laid (read net)) entries plan.wires.outs.walk;
+              ports = input_port net obeys (laid net) entries plan.wires.input;
+              walks = λ n h. inner_walk net obeys (laid net) entries n (plan.wires.walks.walks n (omega (arith, few_nodes net obeys))).walk;
+              outs = outer_walk net obeys (laid net) entries plan.wires.outs.walk;
             });
       }
 
-  module _ (s : List ℕ) (rings : RingsStart (laid (read net)).channel.initial (laid (read net)).channel.tokens s) (nodes : NodesStart (laid (read net)).nodes s) where
+  module _ (s : List ℕ) (rings : RingsStart (laid net).channel.initial (laid net).channel.tokens s) (nodes : NodesStart (laid net).nodes s) where
     state_stands : Represents net (shape_of p) 0 (at_start net) (cells_of s) (pendings_of s)
     unfolding laid
     state_stands =
         rw
         (plan.numbers.of_channels, plan.channels.sort, plan.channels.capacity, rings.head, rings.len, rings.token, nodes.due)
-        (starts_represents net obeys (laid (read net)) entries (part BASE 64 p) plan.channels.base (part NEXT Ns s) (part VALUE Ns s) nodes.next)
+        (starts_represents net obeys (laid net) entries (part BASE 64 p) plan.channels.base (part NEXT Ns s) (part VALUE Ns s) nodes.next)
 
     laid_starts : Starts net p s
     unfolding laid
@@ -111,6 +110,6 @@ module _ (net : Network) (obeys : Obeys net) (out : ℕ) (p : List ℕ) (plan : 
         }
 
 -- a plan and a state that are made of a network's arrays stand for the network
-pub starts : {a : table.Network} {out : ℕ} {p s : List ℕ} → PlanFields a out p → RingsStart a.channel.initial a.channel.tokens s → NodesStart a.nodes s → (net : Network) → Obeys net → a ≡ laid (read net) → Starts net p s
+pub starts : {a : table.Network} {out : ℕ} {p s : List ℕ} → PlanFields a out p → RingsStart a.channel.initial a.channel.tokens s → NodesStart a.nodes s → (net : Network) → Obeys net → a ≡ laid net → Starts net p s
 starts {a} {out} {p} {s} plan rings nodes net obeys from =
     laid_starts net obeys out p (rw from at plan) s (rw from at rings) (rw from at nodes)

@@ -3,7 +3,6 @@ use Rattle.std.specs.Prelude.{List, ◌≡◌, ℕ, length}
 use Rattle.rules.specs.Network as rules
 use Rattle.rules.specs.Network.{Obeys}
 use Rattle.rules.specs.Instant.{at_start}
-use Rattle.rules.specs.Table.{read}
 use Rattle.table.specs.declared.Network.{Network}
 use Rattle.table.specs.Laid.{laid}
 use Rattle.layout.specs.Views.{nodes_of, shape_of, wires_of, ways_of, cells_of, pendings_of, soons_of}
@@ -28,4 +27,4 @@ pub record Starts (net : rules.Network) (p s : List ℕ) : Type 0 where
 pub record Lawful (network : Network) : Type 0 where
   pub net : rules.Network
   pub obeys : Obeys net
-  pub from : network ≡ laid (read net)
+  pub from : network ≡ laid net

@@ -4,7 +4,6 @@
 ghost use Rattle.std.specs.Prelude.{◌≡◌, ℕ, ◌+◌, ◌≤◌, ◌<◌, length, get_or, replicate};
 ghost use Rattle.rules.specs.Lists.{total};
 ghost use Rattle.rules.specs.Network.{Network as Rules, Obeys};
-ghost use Rattle.rules.specs.Table.{read};
 ghost use Rattle.table.specs.Laid.{laid};
 ghost use Rattle.layout.specs.Layout.{SORT, FOLLOW, KIND, FIRST, NODES, PLAN, HEAD, NEXT, STATE};
 ghost use Rattle.setup.specs.Setup.{Within, Laid, BasesOf, PortsOf, WalksOf, WalkOver, CountsOf, ReleasesOf, outer_of, ChannelsFit, NodesFit};
@@ -96,7 +95,7 @@ fn counts(kind: &[u32; 32], nodes: usize, count: &mut [u32; 32])
 {
     let mut n = 0;
     while n < nodes {
-        count[n] = kinds::inputs(kind[n]);
+        count[n] = kinds::inputs_of(kind[n]);
         n += 1;
     }
 }
@@ -243,7 +242,7 @@ fn plan_numbers(nodes: usize, channels: usize, out: u32, plan: &mut [u32; PLAN])
 // most of the zeros that a caller fills them with.
 pub fn prepare(network: Network, plan: &mut [u32; PLAN], state: &mut [u32; STATE])
     requires { Lawful network × (length plan.old ≡ PLAN) × (length state.old ≡ STATE) }
-    ensures { (net : Rules) → Obeys net → network ≡ laid (read net) → Starts net plan.new state.new }
+    ensures { (net : Rules) → Obeys net → network ≡ laid net → Starts net plan.new state.new }
 {
     start_rings(&network.channel.initial, &network.channel.tokens, state);
     start_nodes(network.nodes, state);

@@ -3,7 +3,7 @@ use Prim.Native.Nat.{ℕ, suc, ◌+◌, ◌-◌, ◌<◌}
 use native.Mathlib.Numerals.{add-one}
 use native.Mathlib.Omega.{arith}
 use mathlib.Core.List.{List, [], ◌∷◌, ◌++◌}
-use mathlib.Core.Path.{◌≡◌, refl}
+use mathlib.Core.Path.{◌≡◌, refl, ◌∙◌, ap}
 use lib.IntN.{pos}
 use lib.ListN.{length, set, replicate}
 use Rattle.rules.specs.declared.Node.{Node}
@@ -48,15 +48,15 @@ laid_node nodes node room =
     }
 
 -- node n is read and stored, so one node more is done
-pub node_turn : (s : List ℕ) (n : ℕ) (arrays : NodeArrays) (node : Node) → n < 32 → NodesDone s n arrays → read node ≡ node_piece s n → NodesDone s (n + 1) (stored arrays n node)
+pub node_turn : (s : List ℕ) (n : ℕ) (kind period deadline constant : List ℕ) (node : Node) (bits : ℕ) → bits ≡ pattern node.constant → n < 32 → NodesDone s n (record { kind = kind; period = period; deadline = deadline; constant = constant }) → read node ≡ node_piece s n → NodesDone s (n + 1) (record { kind = set kind n node.kind; period = set period n node.period; deadline = set deadline n node.deadline; constant = set constant n bits })
 unfolding nodes_up_to
-node_turn s n arrays node room done piece =
+node_turn s n kind period deadline constant node bits same room done piece =
     let count : length done.nodes ≡ n = nodes_count s n done.nodes done.reads in
     let fits : length done.nodes < 32 = omega arith in
     record {
       nodes = done.nodes ++ (node ∷ []);
       reads = rw (add-one, done.reads, ← piece);
-      laid = rw (done.laid, ← count) (laid_node done.nodes node fits);
+      laid = rw (same, ← count) (ap (λ a. stored a (length done.nodes) node) done.laid ∙ laid_node done.nodes node fits);
     }
 
 -- node n is refused, so the nodes up to any greater number are

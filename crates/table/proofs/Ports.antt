@@ -1,7 +1,7 @@
 -- The laws of serving ports: counts, a channel at a time, and that by the arrays of a network's fields the faulty nodes are those of the
 -- rules. Assumes nothing.
 use Prim.Native.Nat.{ℕ, ◌+◌, ◌≤◌, ◌<◌}
-use native.Mathlib.Nat.{add-zero}
+use native.Mathlib.Nat.{add-zero, zero-add}
 use native.Mathlib.Numerals.{add-one}
 use native.Mathlib.Omega.{arith}
 use mathlib.Core.Bool.{Bool, true, false, cond, not}
@@ -10,15 +10,30 @@ use mathlib.Core.Path.{◌≡◌, sym, ◌∙◌, ap}
 use lib.Dec.{eqb, ltb}
 use lib.ListN.{length, get_or}
 use borrow.Author.Tests.{eq-eqb, ne_eqb}
+use Rattle.std.specs.Bool.{MatchBool}
+use Rattle.std.specs.List.{AllWithin, HoldsAt, range_with_len}
+use Rattle.std.proofs.lemmas.List.FromFn.{get_or-range_with_len, length-range_with_len}
 use Rattle.rules.specs.Lists.{total, count, every, lowest}
 use Rattle.rules.specs.Kinds.{inputs}
 use Rattle.rules.specs.Network as rules
 use Rattle.rules.specs.Network.{node_of, channel_of, serves, ports_ok}
 use Rattle.rules.specs.Table.{faulty_node}
-use Rattle.rules.proofs.ListLaws.{and_both, get_or_tab}
+use Rattle.rules.proofs.ListLaws.{every_all, and_both, get_or_tab}
 use Rattle.table.specs.Laid.{node_arrays, channel_arrays}
 use Rattle.table.specs.Reads.{served_by, served_right, faulty_in}
-use Rattle.rules.proofs.Agreeing.{count_ext, every_ext, lowest_ext}
+use Rattle.rules.proofs.Agreeing.{every_fails, count_ext, every_ext, lowest_ext}
+
+-- all numbers of a range pass, or one does not
+pub all_in_range : (n : ℕ) (f : ℕ → Bool) (r : Bool) → MatchBool r (AllWithin (λ i. f i ≡ true) (range_with_len 0 n) 0 (length (range_with_len 0 n))) ((k : ℕ) × (k < length (range_with_len 0 n)) × HoldsAt (λ i. f i ≡ false) (range_with_len 0 n) k) → r ≡ every n f
+all_in_range n f true all =
+    sym
+    (every_all n f
+    (λ i h.
+    let inside : i < length (range_with_len 0 n) = omega (arith, length-range_with_len) in
+    rw (get_or-range_with_len 0 n i 0 h, zero-add) at (all i 0 (omega arith) inside)))
+all_in_range n f false (k, below, at) =
+    let inside : k < n = omega (arith, length-range_with_len) in
+    sym (every_fails n f k inside (rw (get_or-range_with_len 0 n k 0 inside, zero-add) at (at 0)))
 
 -- a channel counts one where its reader and its port are those asked for, and else none
 module _ (reader port : List ℕ) (n p c found : ℕ) (before : found ≡ count c (served_by reader port n p)) where

@@ -1,20 +1,17 @@
 -- A network as arrays, a field an array. Assumes nothing.
-use Rattle.std.specs.Prelude.{ℕ, ◌-◌, List, [], ◌∷◌, ◌++◌, map, ◌≡◌, ℤ, length, replicate}
+use Rattle.std.specs.Prelude.{ℕ, ◌-◌, List, [], ◌∷◌, ◌++◌, map, ◌≡◌, ℤ, length, replicate, Result, Ok, Err}
 use Rattle.rules.specs.declared.Node.{Node}
 use Rattle.rules.specs.declared.Channel.{Channel}
 use Rattle.rules.specs.Lists.{tab}
 use Rattle.rules.specs.Kinds.{pattern}
 use Rattle.rules.specs.Network as rules
 use Rattle.rules.specs.Network.{node_among, channel_among}
-use Rattle.rules.specs.Table.{Reading, refusal, read}
+use Rattle.rules.specs.Table.{Reading, read}
 use Rattle.rules.specs.declared.Refusal.{Refusal}
-use Rattle.rules.specs.declared.Checked.{Checked}
-use Rattle.rules.specs.Refusals.{check_says, checked_says}
 use Rattle.pieces.specs.Says.{refused_by}
 use Rattle.table.specs.declared.NodeArrays.{NodeArrays}
 use Rattle.table.specs.declared.ChannelArrays.{ChannelArrays}
 use Rattle.table.specs.declared.Network.{Network}
-use Rattle.table.specs.declared.Table.{Table}
 
 -- the nodes' fields, zero behind the last node; constants by their 32 bits
 unfoldable pub node_arrays : List Node → NodeArrays
@@ -53,11 +50,9 @@ channel_arrays channels tokens =
       tokens = padded 1024 (all_places channels tokens);
     }
 
--- a network that is read, all zero where the table is refused
-unfoldable pub laid : Reading rules.Network → Network
-laid (refusal number place) =
-    record { nodes = 0; channels = 0; node = node_arrays []; channel = channel_arrays [] [] }
-laid (read net) =
+-- a network that is read, laid out
+unfoldable pub laid : rules.Network → Network
+laid net =
     record {
       nodes = length net.nodes;
       channels = length net.channels;
@@ -65,11 +60,13 @@ laid (read net) =
       channel = channel_arrays net.channels net.tokens;
     }
 
--- a refused table
-abbrev pub refused_table : Refusal → Table
-refused_table why = record { answer = Checked.Refused why; network = laid (refused_by why) }
+-- a network was read, and every element of the arrays is as it is laid out
+pub record LaidFrom (reading : Reading rules.Network) (network : Network) : Type 0 where
+  pub net : rules.Network
+  pub reads : reading ≡ read net
+  pub from : network ≡ laid net
 
--- the answer by the paper's numbers and values, and every element of the network
-pub record TableOf (reading : Reading rules.Network) (r : Table) : Type 0 where
-  pub answer : checked_says r.answer ≡ check_says reading
-  pub network : r.network ≡ laid reading
+-- the network, or the refusal by the paper's number and place
+abbrev pub TableOf : Reading rules.Network → Result Network Refusal → Type 0
+TableOf reading (Ok network) = LaidFrom reading network
+TableOf reading (Err why) = reading ≡ refused_by why

@@ -1,11 +1,7 @@
--- No node below n is faulty. What is left of the nodes falls.
-use Rattle.std.proofs.Common.{◌≡◌, ◌≤◌, ◌<◌, ◌-◌, ℕ, false}
+-- No node below n is faulty.
+use Rattle.std.proofs.Common.{◌≡◌, ◌<◌, ℕ, false}
 use Rattle.table.specs.Reads.{faulty_in}
 use Rattle.table.proofs.faulty_node.Given as goal
 
 abbrev pub invariant-loop-n : goal.invariant-loop-n
-invariant-loop-n l =
-    (l.n ≤ l.nodes) × ((i : ℕ) → i < l.n → faulty_in l.kind l.reader l.port l.channels i ≡ false)
-
-abbrev pub decreases-loop-n : goal.decreases-loop-n
-decreases-loop-n l = l.nodes - l.n
+invariant-loop-n l = (i : ℕ) → i < l.n → faulty_in l.kind l.reader l.port l.channels i ≡ false
