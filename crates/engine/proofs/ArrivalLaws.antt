@@ -5,14 +5,13 @@ use mathlib.Core.Bool.{true, false}
 use mathlib.Core.List.{List}
 use mathlib.Core.Path.{◌≡◌}
 use lib.ListN.{length, get_or}
-use borrow.Author.Tests.{lt-ltb, le-ltb}
 use Rattle.std.specs.Prelude.{Option, Some, None}
 use Rattle.std.specs.Option.{MatchOption}
 use Rattle.rules.proofs.ListLaws.{lowest_only, lowest_none}
 use Rattle.layout.specs.Layout.{Cs, WRITER}
 use Rattle.layout.specs.Views.{ways_of}
 use Rattle.layout.proofs.FieldLaws.{channel_seen}
-use Rattle.engine.specs.Arrivals.{faulty_by, first_faulty}
+use Rattle.engine.specs.Arrivals.{faulty_by, FirstFaulty}
 
 -- the writer that is read of a channel is its writer
 pub writer_read : (p : List ℕ) (c : ℕ) → c < Cs → get_or p (WRITER + c) 0 ≡ get_or (ways_of p).writer c 0
@@ -24,13 +23,10 @@ Searched p arrivals r =
     MatchOption r ((k : ℕ) → 0 ≤ k → k < length arrivals → faulty_by p arrivals k ≡ false)
     (λ i. (0 ≤ i) × (i < length arrivals) × (faulty_by p arrivals i ≡ true) × ((k : ℕ) → 0 ≤ k → k < i → faulty_by p arrivals k ≡ false))
 
--- what it finds is the first faulty arrival
-pub first_searched : (p arrivals : List ℕ) (r : Option ℕ) → Searched p arrivals r → r ≡ first_faulty p arrivals
-unfolding first_faulty
-first_searched p arrivals None none =
-    let n = length arrivals in
-    rw (lowest_none n (faulty_by p arrivals) (λ i h. none i zero-le h), le-ltb n n (omega arith))
-first_searched p arrivals (Some i) found =
-    let n = length arrivals in
-    let low = lowest_only {n = n} {f = faulty_by p arrivals} {k = i} (record { most = omega (arith, found.1); without = λ k h. found.3 k zero-le h; found = λ h. found.2 }) in
-    rw (low, lt-ltb i n found.1)
+-- what it finds is the lowest faulty arrival
+pub first_searched : (p arrivals : List ℕ) (r : Option ℕ) → Searched p arrivals r → FirstFaulty p arrivals r
+first_searched p arrivals None none = lowest_none (length arrivals) (faulty_by p arrivals) (λ i h. none i zero-le h)
+first_searched p arrivals (Some i) found = (
+  found.1,
+  lowest_only (record { most = omega (arith, found.1); without = λ k h. found.3 k zero-le h; found = λ h. found.2 }),
+)

@@ -4,25 +4,26 @@ use Prim.Native.Nat.{ℕ, suc, ◌≤◌, ◌<◌}
 use native.Mathlib.Omega.{arith}
 use mathlib.Core.Bool.{true}
 use mathlib.Core.List.{List}
-use mathlib.Core.Path.{◌≡◌, refl, sym, ap, ◌∙◌}
+use mathlib.Core.Path.{◌≡◌, refl, sym, ◌∙◌}
 use lib.Dec.{eqb, ltb}
 use lib.ListN.{length, get_or}
-use borrow.Author.Tests.{ltb-true, ltb-false, le-leb, lt-leb, eq-eqb, ne_eqb}
-use Rattle.std.specs.Prelude.{Option, Some, None, Result, Err}
+use borrow.Author.Tests.{ltb-true, le-leb, lt-leb, eq-eqb, ne_eqb}
+use Rattle.std.specs.Prelude.{Result, Err}
 use Rattle.rules.specs.declared.Refusal.{Refusal}
 use Rattle.rules.specs.declared.Ran.{Ran}
+use Rattle.rules.specs.Lists.{lowest}
 use Rattle.rules.specs.Network.{Network}
 use Rattle.rules.specs.Instant.{channel_in, reached}
 use Rattle.rules.specs.Table.{read, network}
 use Rattle.rules.specs.Refusals.{refused, outcome, allowed, run_from, run, arrival_faulty, faulty_arrival, number_of, place_of}
-use Rattle.rules.proofs.ListLaws.{by_test, lowest_is}
+use Rattle.rules.proofs.ListLaws.{by_test}
 use Rattle.rules.proofs.Arrivals.{Faultless, faultless_arrivals}
 use Rattle.rules.proofs.Accepted.{accepted}
 use Rattle.rules.proofs.Agreeing.{lowest_ext}
 use Rattle.table.specs.declared.Network as table
 use Rattle.table.specs.Laid.{LaidFrom}
 use Rattle.setup.specs.Starts.{Planned, Lawful}
-use Rattle.engine.specs.Arrivals.{faulty_by, below, first_faulty}
+use Rattle.engine.specs.Arrivals.{faulty_by}
 use Rattle.engine.specs.Runs.{RunOf, RunsRead}
 
 -- a refusal leaves the list as it was
@@ -34,26 +35,6 @@ pub late_refused : (net : Network) (horizon : ℕ) (arrivals list : List ℕ) �
 unfolding run_from allowed
 late_refused net horizon arrivals list late = rw (lt-leb horizon 16777215 late) (refused_run Refusal.Horizon list)
 
--- a number that is below n, and one that is not
-below_some : {n i k : ℕ} → below n i ≡ Some k → (i ≡ k) × (k < n)
-below_some {n} {i} {k} e =
-    by_test (ltb i n)
-    (λ h.
-    let is : ◌≡◌ {A = Option ℕ} (Some i) (Some k) = rw h at e in
-    let same : i ≡ k = cc in
-    (same, omega (arith, ltb-true i n h)))
-    (λ h.
-    let is : ◌≡◌ {A = Option ℕ} None (Some k) = rw h at e in
-    cc)
-
-below_none : {n i : ℕ} → below n i ≡ None → n ≤ i
-below_none {n} {i} e =
-    by_test (ltb i n)
-    (λ h.
-    let is : ◌≡◌ {A = Option ℕ} (Some i) None = rw h at e in
-    cc)
-    (λ h. ltb-false i n h)
-
 -- where a plan stands for a network, the lowest faulty arrival by its writers is the network's
 module _ {net : Network} {p : List ℕ} (planned : Planned net p) (arrivals : List ℕ) where
   faulty_same : (i : ℕ) → faulty_by p arrivals i ≡ arrival_faulty net arrivals i
@@ -64,30 +45,26 @@ module _ {net : Network} {p : List ℕ} (planned : Planned net p) (arrivals : Li
       (λ e. rw (planned.wired.channels, e, planned.wired.writer on (ltb-true on (length net.channels) e)))
       (λ e. rw (planned.wired.channels, e))
 
-  first_same : first_faulty p arrivals ≡ below (length arrivals) (faulty_arrival net arrivals)
-  unfolding first_faulty faulty_arrival
-  first_same = ap (below (length arrivals)) (lowest_ext (length arrivals) _ _ (λ i h. faulty_same i))
-
-  none_faulty : first_faulty p arrivals ≡ None → eqb (faulty_arrival net arrivals) (length arrivals) ≡ true
+  faulty_lowest : lowest (length arrivals) (faulty_by p arrivals) ≡ faulty_arrival net arrivals
   unfolding faulty_arrival
-  none_faulty none =
-      let most = (lowest_is (length arrivals) (arrival_faulty net arrivals)).most in
-      eq-eqb (faulty_arrival net arrivals) (length arrivals) (omega (arith, below_none (sym first_same ∙ none)))
+  faulty_lowest = lowest_ext (length arrivals) _ _ (λ i h. faulty_same i)
 
-  pub arrivals_faultless : first_faulty p arrivals ≡ None → Faultless net arrivals
-  arrivals_faultless none = faultless_arrivals net arrivals (none_faulty none)
+  none_faulty : lowest (length arrivals) (faulty_by p arrivals) ≡ length arrivals → eqb (faulty_arrival net arrivals) (length arrivals) ≡ true
+  none_faulty all = eq-eqb (faulty_arrival net arrivals) (length arrivals) (sym faulty_lowest ∙ all)
+
+  pub arrivals_faultless : lowest (length arrivals) (faulty_by p arrivals) ≡ length arrivals → Faultless net arrivals
+  arrivals_faultless all = faultless_arrivals net arrivals (none_faulty all)
 
   -- within the horizon, a run is refused at a faulty arrival, and goes through its instants where there is none
   module _ (horizon : ℕ) (list : List ℕ) (soon : horizon ≤ 16777215) where
-    pub faulty_refused : {faulty : ℕ} → first_faulty p arrivals ≡ Some faulty → RunOf (run_from (read net) horizon arrivals (length list)) list list (Err (Refusal.Arrival faulty))
+    pub faulty_refused : {faulty : ℕ} → (faulty < length arrivals) × (lowest (length arrivals) (faulty_by p arrivals) ≡ faulty) → RunOf (run_from (read net) horizon arrivals (length list)) list list (Err (Refusal.Arrival faulty))
     unfolding run_from allowed
-    faulty_refused {faulty} some =
-        let is = below_some (sym first_same ∙ some) in
-        rw (le-leb horizon 16777215 soon, is.0, ne_eqb faulty (length arrivals) (λ e. omega (arith, is.1))) (refused_run (Refusal.Arrival faulty) list)
+    faulty_refused {faulty} is =
+        rw (le-leb horizon 16777215 soon, ← faulty_lowest, is.1, ne_eqb faulty (length arrivals) (λ e. omega (arith, is.0))) (refused_run (Refusal.Arrival faulty) list)
 
-    pub through_instants : first_faulty p arrivals ≡ None → {after : List ℕ} {r : Result Ran Refusal} → RunOf (outcome (reached net arrivals (length list) (suc horizon))) list after r → RunOf (run_from (read net) horizon arrivals (length list)) list after r
+    pub through_instants : lowest (length arrivals) (faulty_by p arrivals) ≡ length arrivals → {after : List ℕ} {r : Result Ran Refusal} → RunOf (outcome (reached net arrivals (length list) (suc horizon))) list after r → RunOf (run_from (read net) horizon arrivals (length list)) list after r
     unfolding run_from allowed
-    through_instants none ran = rw (le-leb horizon 16777215 soon, none_faulty none) ran
+    through_instants all ran = rw (le-leb horizon 16777215 soon, none_faulty all) ran
 
 -- a network that was read and laid out obeys the network's own rules
 pub laid_lawful : (s : List ℕ) {arrays : table.Network} → LaidFrom (network s) arrays → Lawful arrays

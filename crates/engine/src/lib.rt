@@ -8,7 +8,7 @@ ghost use Rattle.rules.specs.Refusals.{run};
 ghost use Rattle.layout.specs.Layout.{PLAN, STATE};
 ghost use Rattle.layout.specs.Views.{channels_of};
 ghost use Rattle.setup.specs.Starts.{Lawful};
-ghost use Rattle.engine.specs.Arrivals.{faulty_by, first_faulty};
+ghost use Rattle.engine.specs.Arrivals.{faulty_by, FirstFaulty};
 ghost use Rattle.engine.specs.Runs.{RunOf, Startable, RunsThrough, RunsRead};
 
 use layout::{CHANNELS, PLAN, STATE, WRITER, fixed, index};
@@ -39,7 +39,7 @@ fn arrival_faulty(plan: &[u32; PLAN], arrivals: &[u64], i: usize) -> bool
 // The lowest index of a faulty arrival, if there is one.
 fn faulty_arrival(plan: &[u32; PLAN], arrivals: &[u64]) -> Option<usize>
     requires { channels_of plan.now ≤ 64 }
-    ensures { result ≡ first_faulty plan.now arrivals.now }
+    ensures { FirstFaulty plan.now arrivals.now result }
 {
     (0..arrivals.len()).find(|i| arrival_faulty(plan, arrivals, *i))
 }

@@ -1,5 +1,5 @@
 -- The run is refused by its horizon or at its lowest faulty arrival, and else is that of the plan and the state, which stand for the network.
-use Rattle.std.proofs.Common.{arith, sym, ◌∙◌}
+use Rattle.std.proofs.Common.{arith}
 use Rattle.engine.proofs.EntryLaws.{late_refused, arrivals_faultless, faulty_refused, through_instants}
 use Rattle.engine.proofs.run_taken.Goals as goal
 
@@ -9,11 +9,10 @@ returns-then-late c = λ net obeys from. search (arith, late_refused)
 pub returns-in-Some : goal.returns-in-Some
 returns-in-Some c =
     λ net obeys from.
-    faulty_refused (c.prepare.ensures net obeys from).planned _ _ _ (omega arith) (sym c.faulty_arrival.ensures ∙ c.in-Some.is)
+    faulty_refused (c.prepare.ensures net obeys from).planned _ _ _ (omega arith) c.in-Some.ensures
 
 pub returns : goal.returns
 returns c =
     λ net obeys from.
     let starts = c.prepare.ensures net obeys from in
-    let none = sym c.faulty_arrival.ensures ∙ c.in_default.is in
-    through_instants starts.planned _ _ _ (omega arith) none (c.run_prepared.ensures net obeys (arrivals_faultless starts.planned _ none) starts)
+    through_instants starts.planned _ _ _ (omega arith) c.in_default.ensures (c.run_prepared.ensures net obeys (arrivals_faultless starts.planned _ c.in_default.ensures) starts)
