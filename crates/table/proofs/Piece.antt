@@ -1,4 +1,4 @@
--- What a channel's piece says of the channel with its tokens: that they have room, and what is read or refused. Assumes nothing.
+-- What a channel's piece says of the channel's tokens: that they have room. Assumes nothing.
 use Prim.Native.Nat.{ℕ, ◌+◌, ◌≤◌}
 use mathlib.Core.List.{List}
 use mathlib.Core.Path.{◌≡◌}

@@ -1,26 +1,23 @@
--- The laws of serving ports: counts, a channel at a time, and that by the arrays of a network's fields the faulty nodes are those of the
--- rules. Assumes nothing.
-use Prim.Native.Nat.{ℕ, ◌+◌, ◌≤◌, ◌<◌}
-use native.Mathlib.Nat.{add-zero, zero-add}
-use native.Mathlib.Numerals.{add-one}
+-- The laws of serving ports: a test of all numbers of a range, and that by the arrays of a network's fields the faulty nodes are those of
+-- the rules. Assumes nothing.
+use Prim.Native.Nat.{ℕ, ◌≤◌, ◌<◌}
+use native.Mathlib.Nat.{zero-add}
 use native.Mathlib.Omega.{arith}
 use mathlib.Core.Bool.{Bool, true, false, cond, not}
-use mathlib.Core.List.{List}
-use mathlib.Core.Path.{◌≡◌, sym, ◌∙◌, ap}
+use mathlib.Core.Path.{◌≡◌, sym, ap}
 use lib.Dec.{eqb, ltb}
-use lib.ListN.{length, get_or}
-use borrow.Author.Tests.{eq-eqb, ne_eqb}
+use lib.ListN.{length}
 use Rattle.std.specs.Bool.{MatchBool}
 use Rattle.std.specs.List.{AllWithin, HoldsAt, range_with_len}
 use Rattle.std.proofs.lemmas.List.FromFn.{get_or-range_with_len, length-range_with_len}
-use Rattle.rules.specs.Lists.{total, count, every, lowest}
+use Rattle.rules.specs.Lists.{every, lowest}
 use Rattle.rules.specs.Kinds.{inputs}
 use Rattle.rules.specs.Network as rules
 use Rattle.rules.specs.Network.{node_of, channel_of, serves, ports_ok}
 use Rattle.rules.specs.Table.{faulty_node}
-use Rattle.rules.proofs.ListLaws.{every_all, and_both, get_or_tab}
+use Rattle.rules.proofs.ListLaws.{every_all, get_or_tab}
 use Rattle.table.specs.Laid.{node_arrays, channel_arrays}
-use Rattle.table.specs.Reads.{served_by, served_right, faulty_in}
+use Rattle.table.specs.Reads.{served_by, faulty_in}
 use Rattle.rules.proofs.Agreeing.{every_fails, count_ext, every_ext, lowest_ext}
 
 -- all numbers of a range pass, or one does not
@@ -34,26 +31,6 @@ all_in_range n f true all =
 all_in_range n f false (k, below, at) =
     let inside : k < n = omega (arith, length-range_with_len) in
     sym (every_fails n f k inside (rw (get_or-range_with_len 0 n k 0 inside, zero-add) at (at 0)))
-
--- a channel counts one where its reader and its port are those asked for, and else none
-module _ (reader port : List ℕ) (n p c found : ℕ) (before : found ≡ count c (served_by reader port n p)) where
-  counted : (b : Bool) → served_by reader port n p c ≡ b → found + cond b 1 0 ≡ count (c + 1) (served_by reader port n p)
-  unfolding count total
-  counted b e = rw (add-one, before, e)
-
-  pub served_more : get_or reader c 0 ≡ n → get_or port c 0 ≡ p → found + 1 ≡ count (c + 1) (served_by reader port n p)
-  served_more h k = counted true (and_both (eq-eqb (get_or reader c 0) n h) (eq-eqb (get_or port c 0) p k))
-
-  pub other_reader : (get_or reader c 0 ≡ n → ⊥) → found ≡ count (c + 1) (served_by reader port n p)
-  other_reader h = sym (add-zero found) ∙ counted false (rw (ne_eqb (get_or reader c 0) n h))
-
-  pub other_port : get_or reader c 0 ≡ n → (get_or port c 0 ≡ p → ⊥) → found ≡ count (c + 1) (served_by reader port n p)
-  other_port h k =
-      sym (add-zero found) ∙ counted false (rw (eq-eqb (get_or reader c 0) n h, ne_eqb (get_or port c 0) p k))
-
--- a node is faulty where the test of its ports fails
-pub faulty_by_law : (kind reader port : List ℕ) (channels n : ℕ) {k : ℕ} {ok : Bool} → k ≡ inputs (get_or kind n 0) → ok ≡ every 4 (served_right reader port channels n k) → faulty_in kind reader port channels n ≡ not ok
-faulty_by_law kind reader port channels n h e = rw (e, h)
 
 -- by the arrays of a network's fields a channel serves what it serves by the rules
 served_by_law : (net : rules.Network) (n p c : ℕ) → c < 64 → served_by (channel_arrays net.channels net.tokens).reader (channel_arrays net.channels net.tokens).port n p c ≡ serves net n p c

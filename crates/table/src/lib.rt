@@ -207,7 +207,6 @@ fn port_ok(
 }
 
 // Whether every port of node `n` is served as it should be.
-#[tactic(auto, unfolding(rules::specs::Lists::every))]
 fn ports_ok(reader: &[u32; 64], port: &[u32; 64], channels: usize, n: usize, inputs: u32) -> bool
     requires { (channels ≤ 64) × (n < 32) }
     ensures { result ≡ every 4 (served_right reader.now port.now channels n inputs) }
@@ -216,7 +215,7 @@ fn ports_ok(reader: &[u32; 64], port: &[u32; 64], channels: usize, n: usize, inp
 }
 
 // The lowest node with a port that is not served as it should be.
-#[tactic(auto, using(rules::proofs::ListLaws::lowest_only, rules::proofs::ListLaws::lowest_none))]
+#[tactic(auto, using(rules::proofs::ListLaws::lowest_none))]
 fn faulty_node(
     kind: &[u32; 32],
     reader: &[u32; 64],
