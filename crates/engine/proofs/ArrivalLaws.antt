@@ -1,30 +1,32 @@
--- An arrival by its three cases: it is on no channel; on one that the outside does not write; or on one that it does, and then the times
--- decide. Assumes nothing.
-use Prim.Native.Nat.{ℕ, ◌-◌, ◌≤◌, ◌<◌, zero-le}
-use mathlib.Core.Bool.{true, cond}
+-- The writer of a channel, as the code reads it of a plan; and the first faulty arrival, by what a search from the front learns. Assumes nothing.
+use Prim.Native.Nat.{ℕ, ◌+◌, ◌≤◌, ◌<◌, zero-le}
+use native.Mathlib.Omega.{arith}
+use mathlib.Core.Bool.{true, false}
 use mathlib.Core.List.{List}
 use mathlib.Core.Path.{◌≡◌}
-use lib.Dec.{ltb}
-use lib.ListN.{get_or}
-use borrow.Author.Tests.{lt-ltb, le-ltb, eq-eqb, ne_eqb}
-use Rattle.rules.specs.Instant.{channel_in, time_in}
-use Rattle.rules.proofs.ListLaws.{by_test}
-use Rattle.layout.specs.Views.{channels_of, ways_of}
-use Rattle.engine.specs.Arrivals.{faulty_by}
+use lib.ListN.{length, get_or}
+use Rattle.std.specs.Prelude.{Option, Some, None}
+use Rattle.std.specs.Option.{MatchOption}
+use Rattle.rules.proofs.ListLaws.{lowest_only, lowest_none}
+use Rattle.layout.specs.Layout.{Cs, WRITER}
+use Rattle.layout.specs.Views.{ways_of}
+use Rattle.layout.proofs.FieldLaws.{channel_seen}
+use Rattle.engine.specs.Arrivals.{faulty_by, FirstFaulty}
 
-module _ (p arrivals : List ℕ) (i : ℕ) where
-  pub faulty_channel : channels_of p ≤ channel_in (get_or arrivals i 0) → faulty_by p arrivals i ≡ true
-  unfolding faulty_by
-  faulty_channel h = rw (le-ltb (channel_in (get_or arrivals i 0)) (channels_of p) h)
+-- the writer that is read of a channel is its writer
+pub writer_read : (p : List ℕ) (c : ℕ) → c < Cs → get_or p (WRITER + c) 0 ≡ get_or (ways_of p).writer c 0
+writer_read p c h = (channel_seen p p c h).writer
 
-  pub faulty_writer : channel_in (get_or arrivals i 0) < channels_of p → (get_or (ways_of p).writer (channel_in (get_or arrivals i 0)) 0 ≡ 63 → ⊥) → faulty_by p arrivals i ≡ true
-  unfolding faulty_by
-  faulty_writer h other =
-      rw (lt-ltb (channel_in (get_or arrivals i 0)) (channels_of p) h, ne_eqb (get_or (ways_of p).writer (channel_in (get_or arrivals i 0)) 0) 63 other)
+-- what such a search learns: no arrival is faulty, or one is and none before it
+abbrev pub Searched : List ℕ → List ℕ → Option ℕ → Type 0
+Searched p arrivals r =
+    MatchOption r ((k : ℕ) → 0 ≤ k → k < length arrivals → faulty_by p arrivals k ≡ false)
+    (λ i. (0 ≤ i) × (i < length arrivals) × (faulty_by p arrivals i ≡ true) × ((k : ℕ) → 0 ≤ k → k < i → faulty_by p arrivals k ≡ false))
 
-  pub faulty_time : channel_in (get_or arrivals i 0) < channels_of p → get_or (ways_of p).writer (channel_in (get_or arrivals i 0)) 0 ≡ 63
-      → ltb (time_in (get_or arrivals i 0)) (cond (ltb 0 i) (time_in (get_or arrivals (i - 1) 0)) 0) ≡ faulty_by p arrivals i
-  unfolding faulty_by
-  faulty_time h outside =
-      rw (lt-ltb (channel_in (get_or arrivals i 0)) (channels_of p) h, eq-eqb (get_or (ways_of p).writer (channel_in (get_or arrivals i 0)) 0) 63 outside)
-      (by_test (ltb 0 i) (λ e. rw e) (λ e. rw e (le-ltb (time_in (get_or arrivals i 0)) 0 zero-le)))
+-- what it finds is the lowest faulty arrival
+pub first_searched : (p arrivals : List ℕ) (r : Option ℕ) → Searched p arrivals r → FirstFaulty p arrivals r
+first_searched p arrivals None none = lowest_none (length arrivals) (faulty_by p arrivals) (λ i h. none i zero-le h)
+first_searched p arrivals (Some i) found = (
+  found.1,
+  lowest_only (record { most = omega (arith, found.1); without = λ k h. found.3 k zero-le h; found = λ h. found.2 }),
+)

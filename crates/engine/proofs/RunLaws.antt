@@ -8,7 +8,8 @@ use mathlib.Core.Path.{◌≡◌, refl}
 use lib.Dec.{ltb}
 use lib.ListN.{length, get_or, drop, length-append, length-drop}
 use borrow.Author.Tests.{ltb-true}
-use Rattle.rules.specs.declared.Ran.{Ran}
+use Rattle.std.specs.Prelude.{Ok}
+use Rattle.rules.specs.declared.End.{End}
 use Rattle.rules.specs.Network.{Network, Obeys}
 use Rattle.rules.specs.Instant.{State, channel_in, Step, instant, at_start, running, stepped, onward, reached}
 use Rattle.rules.specs.Refusals.{arrival_faulty, outcome}
@@ -47,9 +48,12 @@ pub record Runs (net : Network) (p s : List ℕ) (horizon : ℕ) (arrivals : Lis
   pub starts : Starts net p s
   pub early : horizon < 2 ^ 24
 
+pub runs_early : {net : Network} {p s : List ℕ} {horizon : ℕ} {arrivals : List ℕ} → horizon < 2 ^ 24 → Obeys net → Faultless net arrivals → Starts net p s → Runs net p s horizon arrivals
+runs_early early obeys faultless starts = record { obeys = obeys; faultless = faultless; starts = starts; early = early }
+
 -- a plan and a state that can run do that of a network
 pub startable_runs : {p s : List ℕ} {horizon : ℕ} {arrivals : List ℕ} (pre : (horizon < 2 ^ 24) × Startable p s arrivals) → Runs pre.1.net p s horizon arrivals
-startable_runs pre = record { obeys = pre.1.obeys; faultless = pre.1.faultless; starts = pre.1.starts; early = pre.0 }
+startable_runs pre = runs_early pre.0 pre.1.obeys pre.1.faultless pre.1.starts
 
 -- an arrival that is not faulty is on a channel
 faultless_on : (net : Network) (arrivals : List ℕ) → Faultless net arrivals → OnChannels (length net.channels) arrivals
@@ -96,7 +100,7 @@ module _ {net : Network} {p : List ℕ} {horizon : ℕ} {arrivals before list z 
   then_reached step e = rw (here, ← same_room, ← so_far.many, e)
 
   -- past the horizon the run has ended
-  pub run_ends : horizon < t → RunOf (outcome (reached net arrivals (length before) (suc horizon))) before list (Ran.End count)
+  pub run_ends : horizon < t → RunOf (outcome (reached net arrivals (length before) (suc horizon))) before list (Ok (record { count = count; end = End.Horizon }))
   run_ends past =
       let at : reached net arrivals (length before) (suc horizon) ≡ running so_far.words so_far.st = so_far.still (suc horizon) so_far.ends past in
       rw at (record { answer = rw so_far.many; list = rw (← so_far.many) so_far.listed })

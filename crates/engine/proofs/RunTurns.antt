@@ -4,9 +4,11 @@ use Prim.Native.Nat.{ℕ, zero, suc, ◌+◌, ◌-◌, ◌≤◌}
 use native.Mathlib.Nat.{add-zero, add-suc}
 use native.Mathlib.Omega.{arith}
 use mathlib.Core.List.{List, ◌++◌, append_assoc}
-use mathlib.Core.Path.{◌≡◌, sym, ◌∙◌, ap}
+use mathlib.Core.Path.{◌≡◌, refl, sym, ◌∙◌, ap}
 use lib.ListN.{length, take, drop, length-append}
 use lib.Seq.{take_at, drop-append-add, drop-drop}
+use Rattle.std.specs.Prelude.{Ok}
+use Rattle.rules.specs.declared.End.{End}
 use Rattle.rules.specs.declared.Ran.{Ran}
 use Rattle.rules.specs.Network.{Network}
 use Rattle.rules.specs.Instant.{State, stops, goes, instant, running, halted, onward, reached}
@@ -46,8 +48,8 @@ module _ {net : Network} {p s : List ℕ} {horizon : ℕ} {arrivals before list 
   -- an instant stops the run
   stopped_run : {number channel : ℕ} {after : List ℕ} {r : Ran} → t ≤ horizon
       → (instant net arrivals (length list - count) t so_far.st ≡ stops number channel) × (after ≡ list)
-      → ran_says r ≡ record { number = number; place = t; channel = channel; count = count }
-      → RunOf (outcome (reached net arrivals (length before) (suc horizon))) before after r
+      → ran_says (Ok r) ≡ record { number = number; place = t; channel = channel; count = count }
+      → RunOf (outcome (reached net arrivals (length before) (suc horizon))) before after (Ok r)
   stopped_run {number} {channel} now said says =
       let whole : suc t + (horizon - t) ≡ suc horizon = omega arith in
       let at : reached net arrivals (length before) (suc horizon) ≡ halted so_far.words number t channel =
@@ -104,10 +106,10 @@ module _ {net : Network} {p s : List ℕ} {horizon : ℕ} {arrivals before list 
     pub progress_on : {more next soon : ℕ} → step ≡ Step.On more next soon → Progress net p horizon arrivals before after y soon next (count + more)
     progress_on {more} {next} {soon} e = (goes_on_law now (said (Step.On more next soon) e)).1
 
-    pub run_full : {channel i : ℕ} → step ≡ Step.Full channel → i ≡ t
-        → RunOf (outcome (reached net arrivals (length before) (suc horizon))) before after (Ran.Overfull count i channel)
-    run_full {channel} e same = stopped_run now (said (Step.Full channel) e) (rw same)
+    pub run_full : {channel : ℕ} → step ≡ Step.Full channel
+        → RunOf (outcome (reached net arrivals (length before) (suc horizon))) before after (Ok (record { count = count; end = End.Overfull t channel }))
+    run_full {channel} e = stopped_run now (said (Step.Full channel) e) refl
 
-    pub run_short : {i : ℕ} → step ≡ Step.Short → i ≡ t
-        → RunOf (outcome (reached net arrivals (length before) (suc horizon))) before after (Ran.NoRoom count i)
-    run_short e same = stopped_run now (said Step.Short e) (rw same)
+    pub run_short : step ≡ Step.Short
+        → RunOf (outcome (reached net arrivals (length before) (suc horizon))) before after (Ok (record { count = count; end = End.NoRoom t }))
+    run_short e = stopped_run now (said Step.Short e) refl

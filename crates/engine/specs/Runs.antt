@@ -1,5 +1,6 @@
 -- What a run comes to. Assumes nothing.
-use Rattle.std.specs.Prelude.{ℕ, suc, List, ◌≡◌, length}
+use Rattle.std.specs.Prelude.{ℕ, suc, List, ◌≡◌, length, Result, Ok}
+use Rattle.rules.specs.declared.Refusal.{Refusal}
 use Rattle.rules.specs.declared.Ran.{Ran}
 use Rattle.rules.specs.Network as rules
 use Rattle.rules.specs.Network.{Obeys}
@@ -12,7 +13,7 @@ use Rattle.table.specs.Laid.{laid}
 use Rattle.setup.specs.Starts.{Starts}
 
 -- a run's answer and what the list then holds are those of an outcome
-pub record RunOf (o : Outcome) (before after : List ℕ) (r : Ran) : Type 0 where
+pub record RunOf (o : Outcome) (before after : List ℕ) (r : Result Ran Refusal) : Type 0 where
   pub answer : ran_says r ≡ run_says o
   pub list : after ≡ list_after o before
 
@@ -30,12 +31,12 @@ RunsThrough p s horizon arrivals before after r =
     → Obeys net
     → Faultless net arrivals
     → Starts net p s
-    → RunOf (outcome (reached net arrivals (length before) (suc horizon))) before after r
+    → RunOf (outcome (reached net arrivals (length before) (suc horizon))) before after (Ok r)
 
 -- the run of every network that the arrays were laid out from
-abbrev pub RunsRead : Network → ℕ → List ℕ → List ℕ → List ℕ → Ran → Type 0
+abbrev pub RunsRead : Network → ℕ → List ℕ → List ℕ → List ℕ → Result Ran Refusal → Type 0
 RunsRead network horizon arrivals before after r =
     (net : rules.Network)
     → Obeys net
-    → network ≡ laid (read net)
+    → network ≡ laid net
     → RunOf (run_from (read net) horizon arrivals (length before)) before after r

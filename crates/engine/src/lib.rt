@@ -2,68 +2,52 @@
 // something happens.
 #![tactic(auto)]
 
-ghost use Rattle.std.specs.Prelude.{◌≡◌, cond, ◌-◌, ◌^◌, ◌≤◌, ◌<◌, ltb, length, get_or};
-ghost use Rattle.rules.specs.Lists.{lowest};
+ghost use Rattle.std.specs.Prelude.{◌≡◌, ◌-◌, ◌^◌, ◌≤◌, ◌<◌, ◌&&◌, ltb, length, get_or};
 ghost use Rattle.rules.specs.Instant.{time_in};
 ghost use Rattle.rules.specs.Refusals.{run};
 ghost use Rattle.layout.specs.Layout.{PLAN, STATE};
 ghost use Rattle.layout.specs.Views.{channels_of};
 ghost use Rattle.setup.specs.Starts.{Lawful};
-ghost use Rattle.engine.specs.Arrivals.{faulty_by};
+ghost use Rattle.engine.specs.Arrivals.{faulty_by, FirstFaulty};
 ghost use Rattle.engine.specs.Runs.{RunOf, Startable, RunsThrough, RunsRead};
 
 use layout::{CHANNELS, PLAN, STATE, WRITER, fixed, index};
-use rules::{Checked, Ran, Refusal};
+use rules::{End, Ran, Refusal};
 use steps::Step;
 use table::Network;
 
 // ---- The arrivals
 
-// The time of the arrival before index `i`, 0 before the first.
-fn time_before(arrivals: &[u64], i: usize) -> u32
+// Whether arrival `i` is earlier than the one before it.
+fn too_early(arrivals: &[u64], i: usize) -> bool
     requires { i < length arrivals.now }
-    ensures { result ≡ cond (ltb 0 i) (time_in (get_or arrivals.now (i - 1) 0)) 0 }
+    ensures { result ≡ ltb 0 i && ltb (time_in (get_or arrivals.now i 0)) (time_in (get_or arrivals.now (i - 1) 0)) }
 {
-    if 0 < i {
-        return words::time_in(arrivals[i - 1]);
-    }
-    0
+    i > 0 && words::time_in(arrivals[i]) < words::time_in(arrivals[i - 1])
 }
 
 // Whether arrival `i` is faulty.
+#[tactic(auto, unfolding(crate::specs::Arrivals::faulty_by), using(crate::proofs::ArrivalLaws::writer_read))]
 fn arrival_faulty(plan: &[u32; PLAN], arrivals: &[u64], i: usize) -> bool
     requires { (channels_of plan.now ≤ 64) × (i < length arrivals.now) }
     ensures { result ≡ faulty_by plan.now arrivals.now i }
 {
-    let w = arrivals[i];
-    let c = words::channel_in(w);
-    if c < index(plan, CHANNELS, 0) {
-        if fixed(plan, WRITER, c) == 63 {
-            return words::time_in(w) < time_before(arrivals, i);
-        }
-        return true;
-    }
-    true
+    let c = words::channel_in(arrivals[i]);
+    c >= index(plan, CHANNELS, 0) || fixed(plan, WRITER, c) != 63 || too_early(arrivals, i)
 }
 
-// The lowest index of a faulty arrival, or the number of arrivals.
-fn faulty_arrival(plan: &[u32; PLAN], arrivals: &[u64]) -> usize
+// The lowest index of a faulty arrival, if there is one.
+fn faulty_arrival(plan: &[u32; PLAN], arrivals: &[u64]) -> Option<usize>
     requires { channels_of plan.now ≤ 64 }
-    ensures { result ≡ lowest (length arrivals.now) (faulty_by plan.now arrivals.now) }
+    ensures { FirstFaulty plan.now arrivals.now result }
 {
-    let mut i = 0;
-    while i < arrivals.len() {
-        if arrival_faulty(plan, arrivals, i) {
-            return i;
-        }
-        i += 1;
-    }
-    i
+    (0..arrivals.len()).find(|i| arrival_faulty(plan, arrivals, *i))
 }
 
 // ---- The run
 
 // Runs a plan and a state over the instants up to the horizon at which something happens.
+#[tactic(auto, using(crate::proofs::RunLaws::progress_start, crate::proofs::RunLaws::run_ends))]
 fn run_prepared(
     plan: &[u32; PLAN],
     state: &mut [u32; STATE],
@@ -79,67 +63,65 @@ fn run_prepared(
     let mut from = 0;
     let mut count = 0;
     while t <= horizon {
-        let step = steps::instant(plan, state, arrivals, from, t, &mut words, list, count);
-        match step {
+        match steps::instant(plan, state, arrivals, from, t, &mut words, list, count) {
             Step::Full(channel) => {
-                return Ran::Overfull {
+                let instant = t as usize;
+                return Ran {
                     count,
-                    instant: fields::wide(t),
-                    channel,
+                    end: End::Overfull { instant, channel },
                 };
             }
             Step::Short => {
-                return Ran::NoRoom {
+                let instant = t as usize;
+                return Ran {
                     count,
-                    instant: fields::wide(t),
+                    end: End::NoRoom { instant },
                 };
             }
-            Step::On {
-                more,
-                next: on,
-                soon,
-            } => {
-                count = count + more;
-                from = on;
+            Step::On { more, next, soon } => {
+                count += more;
+                from = next;
                 t = soon;
             }
         }
     }
-    Ran::End { count }
+    Ran {
+        count,
+        end: End::Horizon,
+    }
 }
 
 // Runs a network that was read: the horizon and the arrivals are checked first. The hint keeps the stack that a run takes within the header's
 // figure.
 #[inline(never)]
-fn run_taken(network: Network, horizon: usize, arrivals: &[u64], list: &mut [u64]) -> Ran
+#[tactic(auto, using(crate::proofs::EntryLaws::arrivals_faultless))]
+fn run_taken(
+    network: Network,
+    horizon: usize,
+    arrivals: &[u64],
+    list: &mut [u64],
+) -> Result<Ran, Refusal>
     requires { Lawful network }
     ensures { RunsRead network horizon arrivals.now list.old list.new result }
 {
     let late = 16777215 < horizon;
     if late {
-        return Ran::Refused(Refusal::Horizon);
+        return Err(Refusal::Horizon);
     }
     let mut plan = [0u32; PLAN];
     let mut state = [0u32; STATE];
     setup::prepare(network, &mut plan, &mut state);
-    let faulty = faulty_arrival(&plan, arrivals);
-    if faulty < arrivals.len() {
-        return Ran::Refused(Refusal::Arrival(faulty));
+    if let Some(faulty) = faulty_arrival(&plan, arrivals) {
+        return Err(Refusal::Arrival(faulty));
     }
-    run_prepared(&plan, &mut state, horizon as u32, arrivals, list)
+    Ok(run_prepared(&plan, &mut state, horizon as u32, arrivals, list))
 }
 
 // The second entry point: a run of a table from instant 0 to the horizon, both included. The words go to the front of the list.
-pub fn run(table: &[u8], horizon: usize, arrivals: &[u64], list: &mut [u64]) -> Ran
+#[tactic(auto, unfolding(rules::specs::Refusals::run, rules::specs::Refusals::run_from), using(crate::proofs::EntryLaws::laid_lawful))]
+pub fn run(table: &[u8], horizon: usize, arrivals: &[u64], list: &mut [u64]) -> Result<Ran, Refusal>
     ensures { RunOf (run table.now horizon arrivals.now (length list.old)) list.old list.new result }
 {
-    let read = table::unpack(table);
-    let answer = read.answer;
-    match answer {
-        Checked::Refused(why) => Ran::Refused(why),
-        Checked::Taken {
-            nodes: _,
-            channels: _,
-        } => { run_taken(read.network, horizon, arrivals, list) }
-    }
+    let network = table::unpack(table)?;
+    run_taken(network, horizon, arrivals, list)
 }

@@ -1,19 +1,12 @@
--- A turn passes an arrival that is not faulty, and the first that is is the lowest. Where all are passed there is none.
-use Rattle.std.proofs.Common.{◌≡◌, length, sym, ◌∙◌, arith}
-use Rattle.rules.proofs.ListLaws.{lowest_only, lowest_none}
+-- What the search learns of each arrival that it asks of is whether that is faulty.
+use Rattle.std.proofs.Common.{rules, ◌≡◌, true, false}
+use Rattle.std.proofs.lemmas.Iterator.{first_from_Range}
+use Rattle.engine.specs.Arrivals.{faulty_by}
+use Rattle.engine.proofs.ArrivalLaws.{first_searched}
 use Rattle.engine.proofs.faulty_arrival.Goals as goal
-
-pub returns-then-arrival_faulty : goal.returns-then-arrival_faulty
-returns-then-arrival_faulty c =
-    sym
-    (lowest_only
-    (record {
-      most = omega arith;
-      without = c.loop-i.invariant.1;
-      found = λ h. sym c.arrival_faulty.ensures ∙ c.if-arrival_faulty.true;
-    }))
 
 pub returns : goal.returns
 returns c =
-    let all : c.loop-i.i ≡ length c.args.arrivals.now = omega arith in
-    all ∙ sym (lowest_none _ _ (λ j h. c.loop-i.invariant.1 j (omega arith)))
+    let faulty = faulty_by c.args.plan.now c.args.arrivals.now in
+    first_searched _ _ _
+    (first_from_Range _ _ _ _ (λ i. faulty i ≡ true) (λ i. faulty i ≡ false) c.find.ensures.ran (λ i q k. search rules) (λ i q k. search rules))

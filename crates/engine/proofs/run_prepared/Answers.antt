@@ -1,15 +1,12 @@
 -- A turn does instant t: it stops the run, which then stays so, or goes on, and nothing happens before the next t, which is later, so what is
 -- left up to the horizon falls. That the instant can be done follows from the invariant for the network that is required.
-use Rattle.std.proofs.Common.{◌+◌, ◌≤◌, length, refl, arith}
-use Rattle.engine.proofs.RunLaws.{Runs, startable_runs, progress_start, instant_can, run_ends}
+use Rattle.std.proofs.Common.{◌+◌, ◌≤◌, length, arith}
+use Rattle.engine.proofs.RunLaws.{runs_early, startable_runs, instant_can}
 use Rattle.engine.proofs.RunTurns.{moves_on, progress_on, run_full, run_short}
 use Rattle.engine.proofs.run_prepared.Goals as goal
 
-pub loop-t-init : goal.loop-t-init
-loop-t-init c = (λ net runs. progress_start c.args.list.now runs, refl)
-
-pub instant-step-requires : goal.instant-step-requires
-instant-step-requires c =
+pub instant-requires : goal.instant-requires
+instant-requires c =
     let runs = startable_runs c.requires in
     let can = instant_can (c.loop-t.invariant.0 _ runs) runs c.loop-t-test.true c.loop-t.words c.loop-t.invariant.1 in
     record { arrays = can.0; lists = can.1 }
@@ -17,19 +14,19 @@ instant-step-requires c =
 pub returns-in-Full : goal.returns-in-Full
 returns-in-Full c =
     λ net obeys faultless starts.
-    let runs : Runs net _ _ _ _ = record { obeys = obeys; faultless = faultless; starts = starts; early = c.requires.0 } in
-    run_full runs (c.loop-t.invariant.0 net runs) c.loop-t-test.true _ _ _ (c.instant-step.ensures.says net) c.in-Full.is c.wide.ensures
+    let runs = runs_early c.requires.0 obeys faultless starts in
+    run_full runs (c.loop-t.invariant.0 net runs) c.loop-t-test.true _ _ _ (c.instant.ensures.says net) c.in-Full.is
 
 pub returns-in-Short : goal.returns-in-Short
 returns-in-Short c =
     λ net obeys faultless starts.
-    let runs : Runs net _ _ _ _ = record { obeys = obeys; faultless = faultless; starts = starts; early = c.requires.0 } in
-    run_short runs (c.loop-t.invariant.0 net runs) c.loop-t-test.true _ _ _ (c.instant-step.ensures.says net) c.in-Short.is c.wide-in-Short.ensures
+    let runs = runs_early c.requires.0 obeys faultless starts in
+    run_short runs (c.loop-t.invariant.0 net runs) c.loop-t-test.true _ _ _ (c.instant.ensures.says net) c.in-Short.is
 
 pub loop-t-preserved : goal.loop-t-preserved
 loop-t-preserved c = (
-  λ net runs. progress_on runs (c.loop-t.invariant.0 net runs) c.loop-t-test.true _ _ _ (c.instant-step.ensures.says net) c.in-On.is,
-  c.instant-step.ensures.kept,
+  λ net runs. progress_on runs (c.loop-t.invariant.0 net runs) c.loop-t-test.true _ _ _ (c.instant.ensures.says net) c.in-On.is,
+  c.instant.ensures.kept,
 )
 
 pub overflow_add-count : goal.overflow_add-count
@@ -40,11 +37,5 @@ overflow_add-count c =
 pub loop-t-smaller : goal.loop-t-smaller
 loop-t-smaller c =
     let runs = startable_runs c.requires in
-    let later = moves_on runs (c.loop-t.invariant.0 _ runs) c.loop-t-test.true _ _ _ (c.instant-step.ensures.says _) c.in-On.is in
+    let later = moves_on runs (c.loop-t.invariant.0 _ runs) c.loop-t-test.true _ _ _ (c.instant.ensures.says _) c.in-On.is in
     omega (arith, later, c.loop-t-test.true)
-
-pub returns : goal.returns
-returns c =
-    λ net obeys faultless starts.
-    let runs : Runs net _ _ _ _ = record { obeys = obeys; faultless = faultless; starts = starts; early = c.requires.0 } in
-    run_ends (c.loop-t.invariant.0 net runs) c.loop-t-test.false

@@ -16,7 +16,7 @@ returns-in-Some c =
     let pre = c.requires in
     refused_by_ports c.args.s.now pre.0 pre.1 pre.2 c.if-not-ends.ensures c.in-Some.n c.in-Some.ensures.0 c.in-Some.ensures.1
 
-pub returns-in-None : goal.returns-in-None
-returns-in-None c =
+pub returns : goal.returns
+returns c =
     let pre = c.requires in
-    taken c.args.s.now pre.0 pre.1 pre.2 c.if-not-ends.ensures c.in-None.ensures
+    taken c.args.s.now pre.0 pre.1 pre.2 c.if-not-ends.ensures c.in_default.ensures
