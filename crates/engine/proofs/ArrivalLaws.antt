@@ -1,4 +1,4 @@
--- The writer of a channel, as the code reads it of a plan; and the first faulty arrival, by what a search from the front learns. Assumes nothing.
+-- The first faulty arrival, by what a search from the front learns. Assumes nothing.
 use Prim.Native.Nat.{ℕ, ◌+◌, ◌≤◌, ◌<◌, zero-le}
 use native.Mathlib.Omega.{arith}
 use mathlib.Core.Bool.{true, false}
@@ -8,23 +8,18 @@ use lib.ListN.{length, get_or}
 use Rattle.std.specs.Prelude.{Option, Some, None}
 use Rattle.std.specs.Option.{MatchOption}
 use Rattle.rules.proofs.ListLaws.{lowest_only, lowest_none}
-use Rattle.layout.specs.Layout.{Cs, WRITER}
+use Rattle.layout.specs.declared.Plan.{Plan}
 use Rattle.layout.specs.Views.{ways_of}
-use Rattle.layout.proofs.FieldLaws.{channel_seen}
 use Rattle.engine.specs.Arrivals.{faulty_by, FirstFaulty}
 
--- the writer that is read of a channel is its writer
-pub writer_read : (p : List ℕ) (c : ℕ) → c < Cs → get_or p (WRITER + c) 0 ≡ get_or (ways_of p).writer c 0
-writer_read p c h = (channel_seen p p c h).writer
-
 -- what such a search learns: no arrival is faulty, or one is and none before it
-abbrev pub Searched : List ℕ → List ℕ → Option ℕ → Type 0
+abbrev pub Searched : Plan → List ℕ → Option ℕ → Type 0
 Searched p arrivals r =
     MatchOption r ((k : ℕ) → 0 ≤ k → k < length arrivals → faulty_by p arrivals k ≡ false)
     (λ i. (0 ≤ i) × (i < length arrivals) × (faulty_by p arrivals i ≡ true) × ((k : ℕ) → 0 ≤ k → k < i → faulty_by p arrivals k ≡ false))
 
 -- what it finds is the lowest faulty arrival
-pub first_searched : (p arrivals : List ℕ) (r : Option ℕ) → Searched p arrivals r → FirstFaulty p arrivals r
+pub first_searched : (p : Plan) (arrivals : List ℕ) (r : Option ℕ) → Searched p arrivals r → FirstFaulty p arrivals r
 first_searched p arrivals None none = lowest_none (length arrivals) (faulty_by p arrivals) (λ i h. none i zero-le h)
 first_searched p arrivals (Some i) found = (
   found.1,

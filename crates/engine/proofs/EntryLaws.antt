@@ -22,6 +22,7 @@ use Rattle.rules.proofs.Accepted.{accepted}
 use Rattle.rules.proofs.Agreeing.{lowest_ext}
 use Rattle.table.specs.declared.Network as table
 use Rattle.table.specs.Laid.{LaidFrom}
+use Rattle.layout.specs.declared.Plan.{Plan}
 use Rattle.setup.specs.Starts.{Planned, Lawful}
 use Rattle.engine.specs.Arrivals.{faulty_by}
 use Rattle.engine.specs.Runs.{RunOf, RunsRead}
@@ -36,7 +37,7 @@ unfolding run_from allowed
 late_refused net horizon arrivals list late = rw (lt-leb horizon 16777215 late) (refused_run Refusal.Horizon list)
 
 -- where a plan stands for a network, the lowest faulty arrival by its writers is the network's
-module _ {net : Network} {p : List ℕ} (planned : Planned net p) (arrivals : List ℕ) where
+module _ {net : Network} {p : Plan} (planned : Planned net p) (arrivals : List ℕ) where
   faulty_same : (i : ℕ) → faulty_by p arrivals i ≡ arrival_faulty net arrivals i
   unfolding faulty_by arrival_faulty
   faulty_same i =

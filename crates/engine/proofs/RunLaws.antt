@@ -16,6 +16,8 @@ use Rattle.rules.specs.Refusals.{arrival_faulty, outcome}
 use Rattle.rules.proofs.ListLaws.{by_test, true_or_false}
 use Rattle.rules.proofs.Reach.{sound}
 use Rattle.rules.proofs.Arrivals.{Faultless}
+use Rattle.layout.specs.declared.Plan.{Plan}
+use Rattle.layout.specs.declared.State as layout
 use Rattle.layout.specs.Views.{nodes_of, channels_of, shape_of, cells_of, pendings_of, soons_of}
 use Rattle.arrays.specs.Nodes.{Paired}
 use Rattle.arrays.specs.Represents.{Represents, Cursor}
@@ -26,7 +28,7 @@ use Rattle.engine.specs.Runs.{RunOf, Startable}
 
 -- a run of a network before instant t: it has stood still since the last instant done, its words are the first ones of the list, and the
 -- state z stands for its state
-pub record Progress (net : Network) (p : List ℕ) (horizon : ℕ) (arrivals before list z : List ℕ) (t from count : ℕ) : Type 0 where
+pub record Progress (net : Network) (p : Plan) (horizon : ℕ) (arrivals before list : List ℕ) (z : layout.State) (t from count : ℕ) : Type 0 where
   pub words : List ℕ
   pub st : State
   pub done : ℕ
@@ -42,17 +44,17 @@ pub record Progress (net : Network) (p : List ℕ) (horizon : ℕ) (arrivals bef
   pub listed : list ≡ words ++ drop count before
 
 -- a network whose run a plan and a state are to do, up to a horizon and with these arrivals
-pub record Runs (net : Network) (p s : List ℕ) (horizon : ℕ) (arrivals : List ℕ) : Type 0 where
+pub record Runs (net : Network) (p : Plan) (s : layout.State) (horizon : ℕ) (arrivals : List ℕ) : Type 0 where
   pub obeys : Obeys net
   pub faultless : Faultless net arrivals
   pub starts : Starts net p s
   pub early : horizon < 2 ^ 24
 
-pub runs_early : {net : Network} {p s : List ℕ} {horizon : ℕ} {arrivals : List ℕ} → horizon < 2 ^ 24 → Obeys net → Faultless net arrivals → Starts net p s → Runs net p s horizon arrivals
+pub runs_early : {net : Network} {p : Plan} {s : layout.State} {horizon : ℕ} {arrivals : List ℕ} → horizon < 2 ^ 24 → Obeys net → Faultless net arrivals → Starts net p s → Runs net p s horizon arrivals
 runs_early early obeys faultless starts = record { obeys = obeys; faultless = faultless; starts = starts; early = early }
 
 -- a plan and a state that can run do that of a network
-pub startable_runs : {p s : List ℕ} {horizon : ℕ} {arrivals : List ℕ} (pre : (horizon < 2 ^ 24) × Startable p s arrivals) → Runs pre.1.net p s horizon arrivals
+pub startable_runs : {p : Plan} {s : layout.State} {horizon : ℕ} {arrivals : List ℕ} (pre : (horizon < 2 ^ 24) × Startable p s arrivals) → Runs pre.1.net p s horizon arrivals
 startable_runs pre = runs_early pre.0 pre.1.obeys pre.1.faultless pre.1.starts
 
 -- an arrival that is not faulty is on a channel
@@ -63,7 +65,7 @@ faultless_on net arrivals faultless i h =
     (λ e. true_or_false refl (simp (e, true-or) at (faultless i h)))
 
 -- before the first instant
-pub progress_start : {net : Network} {p s : List ℕ} {horizon : ℕ} {arrivals : List ℕ} (before : List ℕ) → Runs net p s horizon arrivals
+pub progress_start : {net : Network} {p : Plan} {s : layout.State} {horizon : ℕ} {arrivals : List ℕ} (before : List ℕ) → Runs net p s horizon arrivals
     → Progress net p horizon arrivals before before s 0 0 0
 unfolding reached
 progress_start {net} before runs =
@@ -85,7 +87,7 @@ progress_start {net} before runs =
       listed = refl;
     }
 
-module _ {net : Network} {p : List ℕ} {horizon : ℕ} {arrivals before list z : List ℕ} {t from count : ℕ}
+module _ {net : Network} {p : Plan} {horizon : ℕ} {arrivals before list : List ℕ} {z : layout.State} {t from count : ℕ}
     (so_far : Progress net p horizon arrivals before list z t from count) where
   pub same_room : length list ≡ length before
   same_room = rw (so_far.listed, length-append, length-drop) (omega (arith, so_far.many, so_far.fits))
@@ -105,7 +107,7 @@ module _ {net : Network} {p : List ℕ} {horizon : ℕ} {arrivals before list z 
       let at : reached net arrivals (length before) (suc horizon) ≡ running so_far.words so_far.st = so_far.still (suc horizon) so_far.ends past in
       rw at (record { answer = rw so_far.many; list = rw (← so_far.many) so_far.listed })
 
-  module _ {s : List ℕ} (runs : Runs net p s horizon arrivals) where
+  module _ {s : layout.State} (runs : Runs net p s horizon arrivals) where
     pub before_instant : t ≤ horizon → BeforeIn net arrivals p from t so_far.st z
     before_instant now =
         record {

@@ -7,7 +7,7 @@ use mathlib.Core.List.{List, ◌++◌, append_assoc}
 use mathlib.Core.Path.{◌≡◌, refl, sym, ◌∙◌, ap}
 use lib.ListN.{length, take, drop, length-append}
 use lib.Seq.{take_at, drop-append-add, drop-drop}
-use Rattle.std.specs.Prelude.{Ok}
+use Rattle.std.specs.Prelude.{Result, Ok, Err}
 use Rattle.rules.specs.declared.End.{End}
 use Rattle.rules.specs.declared.Ran.{Ran}
 use Rattle.rules.specs.Network.{Network}
@@ -16,12 +16,15 @@ use Rattle.rules.specs.Refusals.{outcome, ran_says}
 use Rattle.rules.proofs.InstantLaws.{instant_goes}
 use Rattle.rules.proofs.Reach.{sound}
 use Rattle.rules.proofs.Idle.{idle_stretch}
+use Rattle.layout.specs.declared.Plan.{Plan}
+use Rattle.layout.specs.declared.State as layout
 use Rattle.layout.specs.Views.{nodes_of, shape_of, cells_of, pendings_of}
 use Rattle.arrays.specs.Instants.{BeforeIn, WentOn}
 use Rattle.arrays.proofs.Skips.{Skipped, skips}
-use Rattle.steps.specs.declared.Step.{Step}
+use Rattle.steps.specs.declared.On.{On}
+use Rattle.steps.specs.declared.Stop.{Stop}
 use Rattle.steps.specs.Steps.{StepSays}
-use Rattle.engine.specs.Runs.{RunOf}
+use Rattle.engine.specs.Runs.{end_at, RunOf}
 use Rattle.engine.proofs.RunLaws.{Runs, Progress, same_room, before_instant, then_reached}
 
 -- a run that has stopped stays so
@@ -43,7 +46,7 @@ words_behind words more before list after count many listed e =
     (ap (λ (n : ℕ). drop (n + k) (words ++ drop count before)) many ∙ drop-append-add words (drop count before) k ∙ drop-drop k count before) in
     rw (e, first, rest) (sym (append_assoc words more (drop (count + k) before)))
 
-module _ {net : Network} {p s : List ℕ} {horizon : ℕ} {arrivals before list z : List ℕ} {t from count : ℕ}
+module _ {net : Network} {p : Plan} {s : layout.State} {horizon : ℕ} {arrivals before list : List ℕ} {z : layout.State} {t from count : ℕ}
     (runs : Runs net p s horizon arrivals) (so_far : Progress net p horizon arrivals before list z t from count) where
   -- an instant stops the run
   stopped_run : {number channel : ℕ} {after : List ℕ} {r : Ran} → t ≤ horizon
@@ -58,7 +61,7 @@ module _ {net : Network} {p s : List ℕ} {horizon : ℕ} {arrivals before list 
       rw (at, said.1) (record { answer = says ∙ rw so_far.many; list = rw (← so_far.many) so_far.listed })
 
   -- an instant goes on, and nothing happens up to the next one at which something may
-  goes_on_law : {after y : List ℕ} {more next soon : ℕ} → t ≤ horizon
+  goes_on_law : {after : List ℕ} {y : layout.State} {more next soon : ℕ} → t ≤ horizon
       → WentOn net arrivals p t so_far.st list count after more next soon y
       → (suc t ≤ soon) × Progress net p horizon arrivals before after y soon next (count + more)
   goes_on_law {after} {y} {more} {next} {soon} now on =
@@ -95,21 +98,22 @@ module _ {net : Network} {p s : List ℕ} {horizon : ℕ} {arrivals before list 
       )
 
   -- what the instant comes to, by what is said of it for every state
-  module _ (now : t ≤ horizon) (step : Step) (after y : List ℕ)
+  module _ (now : t ≤ horizon) (step : Result On Stop) (after : List ℕ) (y : layout.State)
       (told : (st : State) → nodes_of p ≡ length net.nodes → BeforeIn net arrivals p from t st z → StepSays net arrivals p t st list count step after y) where
-    said : (is : Step) → step ≡ is → StepSays net arrivals p t so_far.st list count is after y
+    said : (is : Result On Stop) → step ≡ is → StepSays net arrivals p t so_far.st list count is after y
     said is e = rw e at (told so_far.st runs.starts.planned.nodes (before_instant so_far runs now))
 
-    pub moves_on : {more next soon : ℕ} → step ≡ Step.On more next soon → suc t ≤ soon
-    moves_on {more} {next} {soon} e = (goes_on_law now (said (Step.On more next soon) e)).0
+    pub moves_on : {on : On} → step ≡ Ok on → suc t ≤ on.soon
+    moves_on {on} e = (goes_on_law now (said (Ok on) e)).0
 
-    pub progress_on : {more next soon : ℕ} → step ≡ Step.On more next soon → Progress net p horizon arrivals before after y soon next (count + more)
-    progress_on {more} {next} {soon} e = (goes_on_law now (said (Step.On more next soon) e)).1
+    pub progress_on : {on : On} → step ≡ Ok on → Progress net p horizon arrivals before after y on.soon on.next (count + on.more)
+    progress_on {on} e = (goes_on_law now (said (Ok on) e)).1
 
-    pub run_full : {channel : ℕ} → step ≡ Step.Full channel
-        → RunOf (outcome (reached net arrivals (length before) (suc horizon))) before after (Ok (record { count = count; end = End.Overfull t channel }))
-    run_full {channel} e = stopped_run now (said (Step.Full channel) e) refl
-
-    pub run_short : step ≡ Step.Short
-        → RunOf (outcome (reached net arrivals (length before) (suc horizon))) before after (Ok (record { count = count; end = End.NoRoom t }))
-    run_short e = stopped_run now (said Step.Short e) refl
+    pub run_stopped : {stop : Stop} → step ≡ Err stop
+        → RunOf (outcome (reached net arrivals (length before) (suc horizon))) before after (Ok (record { count = count; end = end_at stop t }))
+    run_stopped {stop} e = by_stop stop (said (Err stop) e)
+      where
+        by_stop : (stop : Stop) → StepSays net arrivals p t so_far.st list count (Err stop) after y
+            → RunOf (outcome (reached net arrivals (length before) (suc horizon))) before after (Ok (record { count = count; end = end_at stop t }))
+        by_stop (Stop.Full channel) says = stopped_run now says refl
+        by_stop Stop.Short says = stopped_run now says refl

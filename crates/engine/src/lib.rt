@@ -5,15 +5,14 @@
 ghost use Rattle.std.specs.Prelude.{◌≡◌, ◌-◌, ◌^◌, ◌≤◌, ◌<◌, ◌&&◌, ltb, length, get_or};
 ghost use Rattle.rules.specs.Instant.{time_in};
 ghost use Rattle.rules.specs.Refusals.{run};
-ghost use Rattle.layout.specs.Layout.{PLAN, STATE};
 ghost use Rattle.layout.specs.Views.{channels_of};
 ghost use Rattle.setup.specs.Starts.{Lawful};
 ghost use Rattle.engine.specs.Arrivals.{faulty_by, FirstFaulty};
-ghost use Rattle.engine.specs.Runs.{RunOf, Startable, RunsThrough, RunsRead};
+ghost use Rattle.engine.specs.Runs.{end_at, RunOf, Startable, RunsThrough, RunsRead};
 
-use layout::{CHANNELS, PLAN, STATE, WRITER, fixed, index};
+use layout::{Plan, State};
 use rules::{End, Ran, Refusal};
-use steps::Step;
+use steps::Stop;
 use table::Network;
 
 // ---- The arrivals
@@ -27,17 +26,17 @@ fn too_early(arrivals: &[u64], i: usize) -> bool
 }
 
 // Whether arrival `i` is faulty.
-#[tactic(auto, unfolding(crate::specs::Arrivals::faulty_by), using(crate::proofs::ArrivalLaws::writer_read))]
-fn arrival_faulty(plan: &[u32; PLAN], arrivals: &[u64], i: usize) -> bool
+#[tactic(auto, unfolding(crate::specs::Arrivals::faulty_by))]
+fn arrival_faulty(plan: &Plan, arrivals: &[u64], i: usize) -> bool
     requires { (channels_of plan.now ≤ 64) × (i < length arrivals.now) }
     ensures { result ≡ faulty_by plan.now arrivals.now i }
 {
     let c = words::channel_in(arrivals[i]);
-    c >= index(plan, CHANNELS, 0) || fixed(plan, WRITER, c) != 63 || too_early(arrivals, i)
+    c >= plan.channels as usize || plan.writer[c] != 63 || too_early(arrivals, i)
 }
 
 // The lowest index of a faulty arrival, if there is one.
-fn faulty_arrival(plan: &[u32; PLAN], arrivals: &[u64]) -> Option<usize>
+fn faulty_arrival(plan: &Plan, arrivals: &[u64]) -> Option<usize>
     requires { channels_of plan.now ≤ 64 }
     ensures { FirstFaulty plan.now arrivals.now result }
 {
@@ -46,11 +45,21 @@ fn faulty_arrival(plan: &[u32; PLAN], arrivals: &[u64]) -> Option<usize>
 
 // ---- The run
 
+// How a run ends that an instant stops.
+fn end_at(stop: Stop, instant: usize) -> End
+    ensures { result ≡ end_at stop instant }
+{
+    match stop {
+        Stop::Full(channel) => End::Overfull { instant, channel },
+        Stop::Short => End::NoRoom { instant },
+    }
+}
+
 // Runs a plan and a state over the instants up to the horizon at which something happens.
 #[tactic(auto, using(crate::proofs::RunLaws::progress_start, crate::proofs::RunLaws::run_ends))]
 fn run_prepared(
-    plan: &[u32; PLAN],
-    state: &mut [u32; STATE],
+    plan: &Plan,
+    state: &mut State,
     horizon: u32,
     arrivals: &[u64],
     list: &mut [u64],
@@ -64,24 +73,16 @@ fn run_prepared(
     let mut count = 0;
     while t <= horizon {
         match steps::instant(plan, state, arrivals, from, t, &mut words, list, count) {
-            Step::Full(channel) => {
-                let instant = t as usize;
+            Ok(on) => {
+                count += on.more;
+                from = on.next;
+                t = on.soon;
+            }
+            Err(stop) => {
                 return Ran {
                     count,
-                    end: End::Overfull { instant, channel },
+                    end: end_at(stop, t as usize),
                 };
-            }
-            Step::Short => {
-                let instant = t as usize;
-                return Ran {
-                    count,
-                    end: End::NoRoom { instant },
-                };
-            }
-            Step::On { more, next, soon } => {
-                count += more;
-                from = next;
-                t = soon;
             }
         }
     }
@@ -96,21 +97,19 @@ fn run_prepared(
 #[inline(never)]
 #[tactic(auto, using(crate::proofs::EntryLaws::arrivals_faultless))]
 fn run_taken(
-    network: Network,
+    network: &Network,
     horizon: usize,
     arrivals: &[u64],
     list: &mut [u64],
 ) -> Result<Ran, Refusal>
-    requires { Lawful network }
-    ensures { RunsRead network horizon arrivals.now list.old list.new result }
+    requires { Lawful network.now }
+    ensures { RunsRead network.now horizon arrivals.now list.old list.new result }
 {
     let late = 16777215 < horizon;
     if late {
         return Err(Refusal::Horizon);
     }
-    let mut plan = [0u32; PLAN];
-    let mut state = [0u32; STATE];
-    setup::prepare(network, &mut plan, &mut state);
+    let (plan, mut state) = setup::prepare(network);
     if let Some(faulty) = faulty_arrival(&plan, arrivals) {
         return Err(Refusal::Arrival(faulty));
     }
@@ -123,5 +122,5 @@ pub fn run(table: &[u8], horizon: usize, arrivals: &[u64], list: &mut [u64]) -> 
     ensures { RunOf (run table.now horizon arrivals.now (length list.old)) list.old list.new result }
 {
     let network = table::unpack(table)?;
-    run_taken(network, horizon, arrivals, list)
+    run_taken(&network, horizon, arrivals, list)
 }
