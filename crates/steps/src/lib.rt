@@ -17,7 +17,8 @@ use layout::{NONE, Plan, State};
 
 // ---- Step 1: writes
 
-// Writes a token to each channel of a walk. Answers the lowest one without room, or `before` where that is lower.
+// Writes a token to each channel of a walk. Answers the lowest one without room, or `before` where that is lower. A walk ends at a number, since
+// with an Option at its end an activation takes 93.4 instructions, where its bar is 93 (docs/DESIGN-PASS.md).
 fn put_all(plan: &Plan, state: &mut State, first: u32, v: i32, before: usize) -> usize
     requires { RingsIn plan.now state.old × Climbs (channels_of plan.now) (ways_of plan.now).follow first × (before ≤ channels_of plan.now) }
     ensures { WroteAlong plan.now state.old first (pattern v) before state.new result }
@@ -161,7 +162,8 @@ fn take_all<const N: usize>(plan: &Plan, state: &mut State, n: usize) -> Option<
     Some(tokens)
 }
 
-// Those of a node by the number of its inputs, and 0 for the ports that it has not. By a number that is known a loop over ports costs nothing.
+// Those of a node by the number of its inputs, and 0 for the ports that it has not. A match, since with a loop over a number of ports that is not
+// known before an activation takes 108 instructions, where its bar is 93 (docs/DESIGN-PASS.md).
 fn take_inputs(plan: &Plan, state: &mut State, n: usize, count: u32) -> Option<[i32; 3]>
     requires { RingsIn plan.now state.old × (n < 32) × Ported (channels_of plan.now) (wires_of plan.now).input n count }
     ensures { TookIn plan.now state.old n count state.new result }
