@@ -163,7 +163,7 @@ fn take_all<const N: usize>(plan: &Plan, state: &mut State, n: usize) -> Option<
 }
 
 // Those of a node by the number of its inputs, and 0 for the ports that it has not. A match, since with a loop over a number of ports that is not
-// known before an activation takes 108 instructions, where its bar is 93 (docs/DESIGN-PASS.md).
+// known before an activation takes 103 to 109 instructions, where its bar is 93 (docs/DESIGN-PASS.md).
 fn take_inputs(plan: &Plan, state: &mut State, n: usize, count: u32) -> Option<[i32; 3]>
     requires { RingsIn plan.now state.old × (n < 32) × Ported (channels_of plan.now) (wires_of plan.now).input n count }
     ensures { TookIn plan.now state.old n count state.new result }
