@@ -1,46 +1,18 @@
--- Laws of the listing's input: what its frame says and what it does not allow, a number of eight bytes, and one arrival more. Assumes
--- nothing.
-use Prim.Native.Nat.{ℕ, ◌+◌, ◌*◌, ◌/◌, ◌%◌, ◌^◌, ◌≤◌, ◌<◌}
-use native.Mathlib.Numerals.{add-one}
-use mathlib.Core.Bool.{true, false, ◌&&◌, and-false}
-use mathlib.Core.List.{List}
-use mathlib.Core.Path.{◌≡◌, sym}
-use lib.Dec.{eqb, leb}
-use lib.ListN.{length, set, take}
-use lib.Seq.{take-suc-set}
-use borrow.Author.Tests.{leb-true, eqb-true, lt-leb, le-leb}
+-- Laws of the listing's input: the listing of one that is not well framed, what is known of one that is, and its arrivals by its bytes
+-- behind the horizon. Assumes nothing.
+use Rattle.std.proofs.Common.{ℕ, zero, suc, ◌+◌, ◌-◌, ◌*◌, ◌/◌, ◌%◌, ◌^◌, ◌≤◌, true, false, ◌&&◌, List, length, drop, get_or, ◌≡◌, refl, ◌∙◌, ap, ap₂, arith, length-drop, eqb, leb}
+use Rattle.std.proofs.lemmas.List.{get_or-drop}
+use borrow.Author.Tests.{leb-true, eqb-true}
 use Rattle.rules.specs.Lists.{tab}
-use Rattle.rules.specs.Table.{field_at}
+use Rattle.rules.specs.Table.{bit_at, field_at}
 use Rattle.rules.specs.Refusals.{refused}
-use Rattle.rules.specs.Listing.{bytes_at, table_length, arrival_bytes, framed, last_line, listing}
-use Rattle.rules.proofs.LongerLists.{tab_more}
-use Rattle.rules.proofs.ListLaws.{and_left, and_right}
-use Rattle.rules.proofs.FieldLaws.{field_append}
+use Rattle.rules.specs.Listing.{bytes_at, table_length, arrival_bytes, arrivals_in, framed, last_line, listing}
+use Rattle.rules.proofs.ListLaws.{and_left, and_right, tab_ext}
 
--- the tests of a frame, in order
-
-module _ (s : List ℕ) where
-  pub too_short : length s < 2 → framed s ≡ false
-  unfolding framed
-  too_short h = rw (lt-leb 2 (length s) h)
-
-  pub table_too_long : 8191 < table_length s → framed s ≡ false
-  unfolding framed
-  table_too_long h = simp (lt-leb (table_length s) 8191 h, and-false)
-
-  pub cut_off : length s < 5 + table_length s → framed s ≡ false
-  unfolding framed
-  cut_off h = simp (lt-leb (5 + table_length s) (length s) h, and-false)
-
-  pub by_arrivals : 2 ≤ length s → table_length s ≤ 8191 → 5 + table_length s ≤ length s → framed s ≡ (eqb (arrival_bytes s % 8) 0 && leb (arrival_bytes s / 8) 2048)
-  unfolding framed
-  by_arrivals two long there =
-      rw (le-leb 2 (length s) two, le-leb (table_length s) 8191 long, le-leb (5 + table_length s) (length s) there)
-
-  -- the listing of an input that is not well framed is the line of refusal 13
-  pub unframed_listing : framed s ≡ false → listing s ≡ last_line 0 (refused 13 0)
-  unfolding listing
-  unframed_listing h = rw h
+-- the listing of an input that is not well framed is the line of refusal 13
+pub unframed_listing : (s : List ℕ) → framed s ≡ false → listing s ≡ last_line 0 (refused 13 0)
+unfolding listing
+unframed_listing s h = rw h
 
 -- what is known of a well framed input
 pub record Frame (s : List ℕ) : Type 0 where
@@ -69,11 +41,24 @@ frame_of s good =
       few = leb-true (arrival_bytes s / 8) 2048 (and_right (a && b && c && d) e good);
     }
 
--- eight bytes are the front 32 bits and the back 32
-pub eight_bytes : (s : List ℕ) (i : ℕ) {high low : ℕ} → high ≡ field_at s (8 * i) 32 → low ≡ field_at s (8 * i + 32) 32 → high * 2 ^ 32 + low ≡ bytes_at s i 8
-eight_bytes s i front back = rw (front, back) (sym (field_append s (8 * i) 32 32))
+-- a field behind so many bytes
+bit_behind : (s : List ℕ) (n at : ℕ) → bit_at (drop n s) at ≡ bit_at s (8 * n + at)
+bit_behind s n at =
+    let byte : n + at / 8 ≡ (8 * n + at) / 8 = omega arith in
+    let bit : at % 8 ≡ (8 * n + at) % 8 = omega arith in
+    ap₂ (λ b k. b / 2 ^ (7 - k) % 2) (get_or-drop n s (at / 8) 0 ∙ ap (λ i. get_or s i 0) byte) bit
 
--- one arrival more in the list
-pub arrival_more : (s : List ℕ) (at : ℕ) (arrivals : List ℕ) (i : ℕ) {arrival : ℕ} → take i arrivals ≡ tab i (λ k. bytes_at s (at + 8 * k) 8) → i < length arrivals → arrival ≡ bytes_at s (at + 8 * i) 8 → take (i + 1) (set arrivals i arrival) ≡ tab (i + 1) (λ k. bytes_at s (at + 8 * k) 8)
-arrival_more s at arrivals i {arrival} before h is =
-    rw (add-one, tab_more i (λ k. bytes_at s (at + 8 * k) 8), ← before, ← is) (take-suc-set arrivals i arrival h)
+field_behind : (s : List ℕ) (n at width : ℕ) → field_at (drop n s) at width ≡ field_at s (8 * n + at) width
+unfolding field_at
+field_behind s n at zero = refl
+field_behind s n at (suc width) =
+    let place : 8 * n + (at + width) ≡ 8 * n + at + width = omega arith in
+    ap₂ (λ front bit. 2 * front + bit) (field_behind s n at width) (bit_behind s n (at + width) ∙ ap (bit_at s) place)
+
+-- the arrivals are the numbers of the bytes behind the horizon
+pub arrivals_behind : (s : List ℕ) → tab (length (drop (5 + table_length s) s) / 8) (λ i. bytes_at (drop (5 + table_length s) s) (8 * i) 8) ≡ arrivals_in s
+arrivals_behind s =
+    let behind = 5 + table_length s in
+    let place = λ (i : ℕ). let e : 8 * behind + 8 * (8 * i) ≡ 8 * (behind + 8 * i) = omega arith in e in
+    tab_ext (length (drop behind s) / 8) _ _ 0 (λ i h. field_behind s behind (8 * (8 * i)) 64 ∙ ap (λ at. field_at s at 64) (place i))
+    ∙ ap (λ n. tab (n / 8) (λ i. bytes_at s (behind + 8 * i) 8)) (length-drop behind s)

@@ -5,8 +5,6 @@
 ghost use Rattle.std.specs.Prelude.{◌≡◌, length};
 ghost use Rattle.rules.specs.Refusals.{check, run, run_says, list_after};
 
-use rules::{Checked, Ran};
-
 // The check of a table: answers the number, 0 for a table that is taken, and writes the place and both counts.
 #[unsafe(no_mangle)]
 pub extern "C" fn tunebobbin_check(
@@ -17,22 +15,18 @@ pub extern "C" fn tunebobbin_check(
 ) -> usize
     ensures { record { number = result; place = place.new; nodes = nodes.new; channels = channels.new } ≡ check table.now }
 {
-    let answer = table::check(table);
-    match answer {
-        Checked::Taken {
-            nodes: n,
-            channels: c,
-        } => {
+    match table::check(table) {
+        Ok(counts) => {
             *place = 0;
-            *nodes = n;
-            *channels = c;
+            *nodes = counts.nodes;
+            *channels = counts.channels;
             0
         }
-        Checked::Refused(why) => {
-            *place = pieces::place_of(why);
+        Err(why) => {
+            *place = why.place();
             *nodes = 0;
             *channels = 0;
-            pieces::number_of(why)
+            why.number()
         }
     }
 }
@@ -53,38 +47,18 @@ pub extern "C" fn tunebobbin_run(
         ≡ run_says (run table.now horizon arrivals.now (length list.old)) }
     ensures list { list.new ≡ list_after (run table.now horizon arrivals.now (length list.old)) list.old }
 {
-    let answer = engine::run(table, horizon, arrivals, list);
-    match answer {
-        Ran::End { count: words } => {
-            *place = 0;
-            *channel = 0;
-            *count = words;
-            0
+    match engine::run(table, horizon, arrivals, list) {
+        Ok(ran) => {
+            *place = ran.end.instant();
+            *channel = ran.end.channel();
+            *count = ran.count;
+            ran.end.number()
         }
-        Ran::Overfull {
-            count: words,
-            instant,
-            channel: full,
-        } => {
-            *place = instant;
-            *channel = full;
-            *count = words;
-            11
-        }
-        Ran::NoRoom {
-            count: words,
-            instant,
-        } => {
-            *place = instant;
-            *channel = 0;
-            *count = words;
-            12
-        }
-        Ran::Refused(why) => {
-            *place = pieces::place_of(why);
+        Err(why) => {
+            *place = why.place();
             *channel = 0;
             *count = 0;
-            pieces::number_of(why)
+            why.number()
         }
     }
 }
