@@ -7,9 +7,9 @@ ghost use Rattle.std.specs.Io.KnownBytes.{Consumes, IsAtEnd};
 ghost use Rattle.std.specs.Iterator.{at_most};
 ghost use Rattle.blocks.specs.Row.{HasBlock, Begins, Next};
 
-use std::error::Error;
+use std::io;
 use std::io::Read;
-use std::{fmt, io};
+use thiserror::Error;
 
 // Reads until the buffer is full or the input ends, and answers how many bytes it put at the buffer's start.
 #[tactic(auto, using(crate::proofs::Filled::consumed_both))]
@@ -30,16 +30,9 @@ pub fn read_full<R: Read>(source: &mut R, buf: &mut [u8]) -> io::Result<usize>
 }
 
 // A row that ends inside a block, or inside its length.
-#[derive(Clone, Copy, Debug, PartialEq, Eq)]
+#[derive(Clone, Copy, Debug, PartialEq, Eq, Error)]
+#[error("short")]
 pub struct Short;
-
-impl fmt::Display for Short {
-    fn fmt<W: fmt::Write>(&self, f: &mut fmt::Formatter<W>) -> fmt::Result {
-        write!(f, "short")
-    }
-}
-
-impl Error for Short {}
 
 // The blocks of a row, in order. Where the row ends inside one it is `Short`, and nothing comes after.
 #[derive(Clone, Debug, Drop)]
