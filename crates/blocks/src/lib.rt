@@ -1,10 +1,11 @@
 // What the programs read: an input whole, and rows of blocks, each behind its length in 4 bytes, most significant first.
 #![tactic(auto)]
 
-ghost use Rattle.std.specs.Prelude.{◌≡◌, ◌<◌, length, take, IfOk, IfSome, MatchOption};
+ghost use Rattle.std.specs.Prelude.{◌≡◌, ◌<◌, length, take, IfOk, IfSome, MatchOption, OnErr};
 ghost use Rattle.std.specs.Io.{ReadsAtMost};
 ghost use Rattle.std.specs.Io.KnownBytes.{Consumes, IsAtEnd};
 ghost use Rattle.std.specs.Iterator.{at_most};
+ghost use Rattle.blocks.specs.Filled.{FilledInPart};
 ghost use Rattle.blocks.specs.Row.{HasBlock, Begins, Next};
 
 use std::io;
@@ -12,11 +13,12 @@ use std::io::Read;
 use thiserror::Error;
 
 // Reads until the buffer is full or the input ends, and answers how many bytes it put at the buffer's start.
-#[tactic(auto, using(crate::proofs::Filled::consumed_both))]
+#[tactic(auto, using(crate::proofs::Filled::consumed_both, crate::proofs::Filled::kept_front))]
 pub fn read_full<R: Read>(source: &mut R, buf: &mut [u8]) -> io::Result<usize>
     ensures within { ReadsAtMost result buf.new }
     ensures front { IfOk result (λ n. Consumes (R.remaining source.old) (R.remaining source.new) (take n buf.new)) }
     ensures end { IfOk result (λ n. n < length buf.new → IsAtEnd (R.remaining source.new)) }
+    ensures failed { OnErr result (FilledInPart (R.remaining source.old) (R.remaining source.new) buf.new) }
 {
     let mut done = 0;
     while done < buf.len() {
