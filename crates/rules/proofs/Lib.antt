@@ -21,3 +21,4 @@ pub mod Order
 pub mod Settle
 pub mod SaysOnce
 pub mod RefusalNumbers
+pub mod Settled
