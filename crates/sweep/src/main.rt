@@ -3,109 +3,72 @@
 // inside one, or inside its length, `short`. Where a read or a write fails it says so on standard error, and its status is 1.
 #![tactic(auto)]
 
-ghost use Rattle.std.specs.Io.{ReadsAtMost};
-
+use blocks::read_full;
 use std::io;
 use std::io::{Read, Write};
+use thiserror::Error;
 
-// Reads until the buffer is full or the input ends, and answers how many bytes it put at the buffer's start.
-fn read_full(source: &mut impl Read, buf: &mut [u8]) -> io::Result<usize>
-    ensures { ReadsAtMost result buf.new }
-{
-    let mut done = 0;
-    while done < buf.len() {
-        let n = source.read(&mut buf[done..])?;
-        if n == 0 {
-            break;
-        }
-        done += n;
+// Why the inputs are read no further.
+#[derive(Debug, Drop, Error)]
+enum Stop {
+    #[error("short")]
+    Short,
+    #[error("too long")]
+    TooLong,
+    #[error(transparent)]
+    Failed(#[from] io::Error),
+}
+
+// Reads the next input into the front of this room, and answers it. At the end of the inputs there is none.
+fn next_input<'a>(source: &mut impl Read, room: &'a mut [u8]) -> Result<Option<&'a [u8]>, Stop> {
+    let mut head = [0u8; 4];
+    let n = read_full(source, &mut head)?;
+    if n == 0 {
+        return Ok(None);
     }
-    Ok(done)
+    if n < head.len() {
+        return Err(Stop::Short);
+    }
+    let bytes = u32::from_be_bytes(head) as usize;
+    let input = room.get_mut(..bytes).ok_or(Stop::TooLong)?;
+    if read_full(source, input)? < bytes {
+        return Err(Stop::Short);
+    }
+    Ok(Some(input))
 }
 
 // Writes the listing of these bytes, which is put into the text.
 fn list(out: &mut impl Write, s: &[u8], text: &mut [u8]) -> io::Result<()> {
     let n = listing::listing(s, text);
-    if n <= text.len() {
-        out.write_all(&text[..n])?;
+    if let Some(listing) = text.get(..n) {
+        out.write_all(listing)?;
     }
     Ok(())
 }
 
-// Says why the inputs are read no further, and answers that they are not.
-fn stop(out: &mut impl Write, why: &[u8]) -> io::Result<bool> {
-    out.write_all(why)?;
-    Ok(false)
-}
-
-// Reads an input that fills these bytes, and lists it. Answers whether to go on.
-fn list_full(
-    source: &mut impl Read,
-    out: &mut impl Write,
-    input: &mut [u8],
-    text: &mut [u8],
-) -> io::Result<bool> {
-    if read_full(source, input)? < input.len() {
-        return stop(out, b"short\n");
-    }
-    list(out, input, text)?;
-    Ok(true)
-}
-
-// Reads an input of so many bytes, and lists it. Answers whether to go on.
-fn list_long(
-    source: &mut impl Read,
-    out: &mut impl Write,
-    bytes: usize,
-    input: &mut [u8],
-    text: &mut [u8],
-) -> io::Result<bool> {
-    if bytes <= input.len() {
-        return list_full(source, out, &mut input[..bytes], text);
-    }
-    stop(out, b"too long\n")
-}
-
-// Reads an input's length, and then the input, and lists it. Answers whether to go on.
-fn list_next(
-    source: &mut impl Read,
-    out: &mut impl Write,
-    input: &mut [u8],
-    text: &mut [u8],
-) -> io::Result<bool> {
-    let mut head = [0u8; 4];
-    let n = read_full(source, &mut head)?;
-    if n == 0 {
-        return Ok(false);
-    }
-    if n < 4 {
-        return stop(out, b"short\n");
-    }
-    list_long(
-        source,
-        out,
-        fields::field(&head, 0, 32) as usize,
-        input,
-        text,
-    )
-}
-
-// A proved loop has to end, and nothing says that the inputs do. So the loop counts its turns down, from a number that no run uses up.
+// A proved loop has to end, and nothing says that the inputs do. So the loop has a last turn, which no run comes to.
 fn list_all(
     source: &mut impl Read,
     out: &mut impl Write,
-    input: &mut [u8],
+    room: &mut [u8],
     text: &mut [u8],
-) -> io::Result<()> {
-    let mut turns = u64::MAX;
-    while turns > 0 && list_next(source, out, input, text)? {
-        turns -= 1;
+) -> Result<(), Stop> {
+    for _ in 0..u64::MAX {
+        let Some(input) = next_input(source, room)? else {
+            break;
+        };
+        list(out, input, text)?;
     }
     Ok(())
 }
 
 fn main(rt: HostRuntime) -> io::Result<()> {
-    let mut input = [0u8; 131072];
+    let mut room = [0u8; 131072];
     let mut text = [0u8; listing::SIZE];
-    list_all(&mut rt.stdin(), &mut rt.stdout(), &mut input, &mut text)
+    let mut out = rt.stdout();
+    match list_all(&mut rt.stdin(), &mut out, &mut room, &mut text) {
+        Ok(()) => Ok(()),
+        Err(Stop::Failed(why)) => Err(why),
+        Err(why) => writeln!(out, "{why}"),
+    }
 }
