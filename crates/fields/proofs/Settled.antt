@@ -5,12 +5,6 @@ use Rattle.rules.proofs.Settle.{Settled}
 use Rattle.fields.specs.contracts as contracts
 use Rattle.fields.proofs as calls
 
-pub wide : Settled contracts.wide.ended calls.wide.Reads.Learnt
-wide κs args o p e f = Σ_path (e ∙⁻¹ f) refl
-
-pub wide64 : Settled contracts.wide64.ended calls.wide64.Reads.Learnt
-wide64 κs args o p e f = Σ_path (e ∙⁻¹ f) refl
-
 pub holds : Settled contracts.Reader.holds.ended calls.Reader.holds.Reads.Learnt
 holds κs args o p e f = Σ_path (e ∙⁻¹ f) refl
 

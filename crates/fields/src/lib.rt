@@ -7,20 +7,6 @@ ghost use Rattle.std.proofs.Common.{to_z, of_z};
 ghost use Rattle.rules.specs.Table.{field_at};
 ghost use Rattle.fields.specs.Bits.{field_or_end};
 
-// A field as a number that can be an index.
-pub fn wide(x: u32) -> usize
-    ensures { result ≡ x }
-{
-    x as usize
-}
-
-// A field as a number of 64 bits.
-pub fn wide64(x: u32) -> u64
-    ensures { result ≡ x }
-{
-    u64::from(x)
-}
-
 // Bit `k` of byte `i`, the most significant first.
 fn bit(s: &[u8], i: usize, k: usize) -> u32
     requires { (i < length s.now) × (k < 8) }
