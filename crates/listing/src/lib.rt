@@ -64,7 +64,7 @@ impl Text<'_> {
         self.put(b" ");
         self.put_number(words::channel_in(w));
         self.put(b" ");
-        self.put_number(fields::signed(words::value_in(w)));
+        self.put_number(words::value_in(w));
         self.put(b"\n");
     }
 

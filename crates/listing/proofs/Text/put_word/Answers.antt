@@ -1,7 +1,6 @@
 -- The parts of the line are put one behind another.
-use Rattle.std.proofs.Common.{sym, ◌∙◌, ap, arith}
-use Rattle.rules.specs.Kinds.{signed}
-use Rattle.rules.specs.Listing.{decimal, signed_decimal, line, word_line}
+use Rattle.std.proofs.Common.{◌%◌, ◌^◌, sym, ◌∙◌, ap, arith}
+use Rattle.rules.specs.Listing.{decimal, line, word_line}
 use Rattle.listing.proofs.TextLaws.{puts_as, puts_then}
 use Rattle.listing.proofs.DecimalLaws.{decimal_is, token_text}
 use Rattle.listing.proofs.Text.put_word.Goals as goal
@@ -11,7 +10,7 @@ unfolding word_line line
 returns-clause-line c =
     let time = sym (decimal_is c.time_in.result (omega arith)) ∙ ap decimal c.time_in.ensures in
     let channel = sym (decimal_is c.channel_in.result (omega arith)) ∙ ap decimal c.channel_in.ensures in
-    let value = token_text c.value_in.result (omega arith) c.signed.ensures ∙ ap (λ v. signed_decimal (signed v)) c.value_in.ensures in
+    let value = token_text (c.args.w % 2 ^ 32) (omega arith) c.value_in.ensures in
     puts_then (puts_as time c.put_number.ensures)
     (puts_then c.put.ensures
     (puts_then (puts_as channel c.put_number-2.ensures)
