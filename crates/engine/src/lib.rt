@@ -11,7 +11,7 @@ ghost use Rattle.engine.specs.Arrivals.{faulty_by, FirstFaulty};
 ghost use Rattle.engine.specs.Runs.{end_at, RunOf, Startable, RunsThrough, RunsRead};
 
 use layout::{Plan, State};
-use rules::{End, Ran, Refusal};
+use rules::{End, OUTSIDE, Ran, Refusal};
 use steps::Stop;
 use table::Network;
 
@@ -32,7 +32,7 @@ fn arrival_faulty(plan: &Plan, arrivals: &[u64], i: usize) -> bool
     ensures { result ≡ faulty_by plan.now arrivals.now i }
 {
     let c = words::channel_in(arrivals[i]);
-    c >= plan.channels as usize || plan.writer[c] != 63 || too_early(arrivals, i)
+    c >= plan.channels as usize || plan.writer[c] != OUTSIDE || too_early(arrivals, i)
 }
 
 // The lowest index of a faulty arrival, if there is one.

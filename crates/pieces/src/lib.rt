@@ -8,7 +8,7 @@ ghost use Rattle.pieces.specs.Says.{says, says_by, header_of};
 
 use fields::Reader;
 use kinds::Kind;
-use rules::{Channel, Counts, Node, Refusal};
+use rules::{Channel, Counts, Node, OUTSIDE, Refusal};
 
 // ---- The header
 
@@ -88,7 +88,7 @@ pub fn node_piece(s: &[u8], n: usize) -> Result<Node, Refusal>
 fn end_ok(nodes: usize, n: u32) -> bool
     ensures { result ≡ end_ok nodes n }
 {
-    ((n as usize) < nodes) | (n == 63)
+    ((n as usize) < nodes) | (n == OUTSIDE)
 }
 
 #[tactic(auto, unfolding(rules::specs::Network::channel_ok))]
@@ -99,8 +99,8 @@ fn channel_ok(nodes: usize, ch: Channel) -> bool
     let capacity = (1 <= ch.capacity) & (ch.capacity <= 64);
     let register = (ch.sort != 1) | ((ch.capacity == 1) & (ch.initial == 1));
     let held = (ch.sort != 1) & (ch.port == 0) & (ch.capacity == 1) & (ch.initial == 0);
-    let out = (ch.reader != 63) | held;
-    let through = (ch.writer == 63) & (ch.reader == 63);
+    let out = (ch.reader != OUTSIDE) | held;
+    let through = (ch.writer == OUTSIDE) & (ch.reader == OUTSIDE);
     ends & capacity & (ch.initial <= ch.capacity) & register & out & !through
 }
 

@@ -8,6 +8,9 @@ ghost use Rattle.rules.specs.Shown.{refusal_text, counts_text, ran_text};
 use std::error::Error;
 use std::fmt;
 
+// The number that stands for the outside, as a writer or a reader: a channel's record has it where its bits have it.
+pub const OUTSIDE: u32 = 63;
+
 // A node, as its 69 bits have it.
 #[derive(Clone, Copy, Debug, Default, PartialEq, Eq)]
 pub struct Node {

@@ -19,7 +19,7 @@ use std::mem;
 use table::Network;
 
 // Nodes have numbers below this: any other, as a writer or a reader, is the outside.
-const OUTSIDE: u32 = 32;
+const MOST_NODES: u32 = 32;
 
 // ---- Of the channels and the nodes
 
@@ -61,7 +61,7 @@ fn inputs(channels: &[Channel]) -> [[u32; 4]; 32]
 {
     let mut input = [[0; 4]; 32];
     for (c, channel) in channels.iter().enumerate() {
-        if channel.reader < OUTSIDE {
+        if channel.reader < MOST_NODES {
             input[channel.reader as usize][channel.port as usize] = c as u32;
         }
     }
@@ -87,9 +87,9 @@ fn walks(channels: &[Channel]) -> Ways
     let mut out = NONE;
     let mut outs = [NONE; 64];
     for (c, channel) in channels.iter().enumerate().rev() {
-        if OUTSIDE <= channel.reader {
+        if MOST_NODES <= channel.reader {
             outs[c] = mem::replace(&mut out, c as u32);
-        } else if channel.writer < OUTSIDE {
+        } else if channel.writer < MOST_NODES {
             follow[c] = mem::replace(&mut first[channel.writer as usize], c as u32);
         }
     }

@@ -6,18 +6,18 @@ use Rattle.setup.proofs.walks.Goals as goal
 pub loop-c-init : goal.loop-c-init
 loop-c-init c = left_all (cc) (cc) c.requires
 
-pub loop-c-preserved-then-channel-ge-OUTSIDE : goal.loop-c-preserved-then-channel-ge-OUTSIDE
-loop-c-preserved-then-channel-ge-OUTSIDE c =
-    left_out _ _ c.loop-c.invariant c.in-Some.ensures.steps c.if-channel-ge-OUTSIDE.true c.replace.ensures.after c.replace.ensures.value
+pub loop-c-preserved-then-channel-ge-MOST_NODES : goal.loop-c-preserved-then-channel-ge-MOST_NODES
+loop-c-preserved-then-channel-ge-MOST_NODES c =
+    left_out _ _ c.loop-c.invariant c.in-Some.ensures.steps c.if-channel-ge-MOST_NODES.true c.replace.ensures.after c.replace.ensures.value
 
-pub loop-c-preserved-then-channel-lt-OUTSIDE : goal.loop-c-preserved-then-channel-lt-OUTSIDE
-loop-c-preserved-then-channel-lt-OUTSIDE c =
-    let put = c.replace-then-channel-lt-OUTSIDE.ensures in
-    left_take _ _ c.loop-c.invariant c.in-Some.ensures.steps c.if-channel-ge-OUTSIDE.false c.if-channel-lt-OUTSIDE.true put.after put.value
+pub loop-c-preserved-then-channel-lt-MOST_NODES : goal.loop-c-preserved-then-channel-lt-MOST_NODES
+loop-c-preserved-then-channel-lt-MOST_NODES c =
+    let put = c.replace-then-channel-lt-MOST_NODES.ensures in
+    left_take _ _ c.loop-c.invariant c.in-Some.ensures.steps c.if-channel-ge-MOST_NODES.false c.if-channel-lt-MOST_NODES.true put.after put.value
 
 pub loop-c-preserved : goal.loop-c-preserved
 loop-c-preserved c =
-    left_pass _ _ c.loop-c.invariant c.in-Some.ensures.steps c.if-channel-ge-OUTSIDE.false c.if-channel-lt-OUTSIDE.false
+    left_pass _ _ c.loop-c.invariant c.in-Some.ensures.steps c.if-channel-ge-MOST_NODES.false c.if-channel-lt-MOST_NODES.false
 
 pub returns : goal.returns
 returns c = left_none c.loop-c.invariant c.in-None.ensures.steps.1.0
