@@ -12,7 +12,6 @@ use lib.Seq.{get_or-set_same, get_or-set_other}
 use borrow.Author.Tests.{ltb-true, ltb-false, eqb-true, eqb-false, eq-eqb}
 use Rattle.std.proofs.lemmas.List.{length-take-le, get_or-take, get_or-append_right}
 use Rattle.rules.specs.Lists.{total}
-use Rattle.rules.specs.Kinds.{inputs}
 use Rattle.rules.proofs.ListLaws.{by_test, and_both, true_or_false}
 use Rattle.rules.proofs.Agreeing.{total_longer}
 use Rattle.kinds.specs.Nodes.{never}

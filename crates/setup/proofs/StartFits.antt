@@ -1,13 +1,13 @@
 -- The arrays of a network that obeys its rules are such that a plan can be made of them: few channels and nodes, few places, ports and sorts of
 -- their bits and kinds of the list. Assumes nothing.
-use Prim.Native.Nat.{ℕ, ◌≤◌, ◌<◌}
+use Prim.Native.Nat.{ℕ, ◌<◌}
 use native.Mathlib.Omega.{arith}
-use mathlib.Core.Path.{◌≡◌, refl}
+use mathlib.Core.Path.{refl}
 use lib.Dec.{ltb}
 use lib.ListN.{length}
 use borrow.Author.Tests.{ltb-true, ltb-false}
 use Rattle.std.proofs.lemmas.List.{get_or_past}
-use Rattle.rules.specs.Lists.{total, tab}
+use Rattle.rules.specs.Lists.{tab}
 use Rattle.rules.specs.Network.{Network, Obeys, node_of, channel_of, node_among, channel_among, capacities}
 use Rattle.rules.proofs.Checks.{few_nodes, few_channels}
 use Rattle.rules.proofs.ListLaws.{by_test, get_or_tab}

@@ -1,10 +1,10 @@
 -- The plan and the state that are made of a network's arrays stand for it before the first instant, where it obeys its rules.
 -- Assumes nothing.
-use Prim.Native.Nat.{ℕ, ◌*◌, ◌≤◌, ◌<◌}
+use Prim.Native.Nat.{ℕ, ◌*◌, ◌≤◌}
 use native.Mathlib.Omega.{arith}
 use mathlib.Core.Path.{◌≡◌, ◌∙◌}
 use lib.IntN.{pos}
-use lib.ListN.{length, get_or, length-map, length-replicate, get_or-replicate}
+use lib.ListN.{get_or, length-map, length-replicate, get_or-replicate}
 use Rattle.rules.specs.Kinds.{pattern}
 use Rattle.rules.specs.Network.{Network, Obeys}
 use Rattle.rules.proofs.Checks.{few_nodes}
@@ -13,11 +13,11 @@ use Rattle.table.specs.declared.Network as table
 use Rattle.table.specs.Laid.{laid}
 use Rattle.layout.specs.declared.Plan.{Plan}
 use Rattle.layout.specs.declared.State.{State}
-use Rattle.layout.specs.Views.{soons_of, pendings_of, nodes_of}
+use Rattle.layout.specs.Views.{soons_of, pendings_of}
 use Rattle.arrays.specs.Nodes.{Sized, Unused, Paired, pair_soon}
 use Rattle.setup.specs.Fields.{PlanFields, StateFields}
 use Rattle.setup.specs.Starts.{Planned, Starts}
-use Rattle.setup.proofs.StartFields.{Entries, Filled, laid_entries, laid_filled}
+use Rattle.setup.proofs.StartFields.{Entries, laid_entries, laid_filled}
 use Rattle.setup.proofs.StartStands.{starts_represents}
 use Rattle.setup.proofs.StartWires.{inner_walk, outer_walk, input_port}
 use Rattle.setup.proofs.StartAble.{starts_readable, starts_separate}

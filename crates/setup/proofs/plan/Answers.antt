@@ -3,10 +3,8 @@ use Rattle.std.proofs.Common.{◌≡◌, refl, rules, pos, arith, ◌<◌}
 use Rattle.std.proofs.Math.ListN.{get_or-map}
 use Rattle.kinds.specs.declared.Kind.{Kind}
 use Rattle.kinds.specs.Kind.{kind_number}
-use Rattle.layout.specs.declared.Sort.{Sort}
-use Rattle.layout.specs.Views.{sort_number}
 use Rattle.table.specs.declared.Network.{Network}
-use Rattle.setup.proofs.FromFn.{tabled, tabled_seen}
+use Rattle.setup.proofs.FromFn.{tabled}
 use Rattle.setup.proofs.plan.Goals as goal
 
 pub returns : goal.returns
