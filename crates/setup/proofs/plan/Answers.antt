@@ -14,10 +14,10 @@ returns c =
       nodes = refl;
       channels = refl;
       sort = c.sorts.ensures;
-      base = rw c.requires.channels at c.bases.ensures;
+      base = c.bases.ensures;
       capacity = tabled (λ p. p.0.now ≡ a) _ (λ p q i y kept called. search rules) 0 c.from_fn.ensures.items refl;
       writer = tabled (λ p. p.0.now ≡ a) _ (λ p q i y kept called. search rules) 0 c.from_fn-2.ensures.items refl;
-      walks = rw c.requires.channels at c.walks-out.ensures;
+      walks = c.walks-out.ensures;
       kind = c.kinds-kind.ensures;
       constant = tabled (λ p. p.0.now ≡ a) _ (λ p q i y kept called. search rules) (pos 0) c.from_fn-3.ensures.items refl;
       period = tabled (λ p. p.0.now ≡ a) _ (λ p q i y kept called. search rules) 0 c.from_fn-4.ensures.items refl;
@@ -29,5 +29,5 @@ returns c =
             let called = (c.map.ensures.items.at i Kind.Constant 0 there).2 in
             rw (get_or-map kind_number c.kinds-kind.result i Kind.Constant) (search rules);
       };
-      input = rw c.requires.channels at c.inputs.ensures;
+      input = c.inputs.ensures;
     }
