@@ -1,15 +1,16 @@
--- The arrays that are made of a table before the first instant, an entry at a time: the sums of capacities, the channel at each port, the
--- numbers of inputs and the first releases. Assumes nothing.
+-- The arrays that are made of a network before the first instant, an entry at a time: the sums of capacities, the first releases, and the
+-- channel at each port. Assumes nothing.
 use Prim.Native.Nat.{ℕ, suc, ◌+◌, ◌-◌, ◌≤◌, ◌<◌}
 use borrow.Rule.Slice.PartMut.{put_mid}
 use native.Mathlib.Numerals.{add-one}
 use native.Mathlib.Omega.{arith}
 use mathlib.Core.List.{List, [], ◌∷◌}
-use mathlib.Core.Path.{◌≡◌, refl, sym, ◌∙◌, ap}
+use mathlib.Core.Path.{◌≡◌, refl, sym, ◌∙◌}
 use lib.Dec.{eqb, ltb}
 use lib.ListN.{length, get_or, set, replicate, take, drop, get_or-append, length-drop, length-append, length-set, length-replicate, get_or-replicate}
 use lib.Seq.{get_or-set_same, get_or-set_other}
 use borrow.Author.Tests.{ltb-true, ltb-false, eqb-true, eqb-false, eq-eqb}
+use Rattle.std.proofs.lemmas.List.Edits.{fill_by_more}
 use Rattle.std.proofs.lemmas.List.{length-take-le, get_or-take, get_or-append_right}
 use Rattle.rules.specs.Lists.{total}
 use Rattle.rules.proofs.ListLaws.{by_test, and_both, true_or_false}
@@ -29,11 +30,6 @@ at_set P d l k v i h here there =
     rw (same, get_or-set_same l k v d h) (here same))
     (λ e. rw (get_or-set_other l k i v d (eqb-false i k e)) (there (eqb-false i k e)))
 
--- one more entry is filled
-filled_more : (l : List ℕ) (f : ℕ → ℕ) (c v : ℕ) → c < length l → ((i : ℕ) → i < c → get_or l i 0 ≡ f i) → v ≡ f c → (i : ℕ) → i < c + 1 → get_or (set l c v) i 0 ≡ f i
-filled_more l f c v h below now i under =
-    at_set (λ x. x ≡ f i) 0 l c v i h (λ e. now ∙ ap f (sym e)) (λ other. below i (omega arith))
-
 -- a sum with its next part is at most a longer sum
 pub sum_within : (n c : ℕ) (f : ℕ → ℕ) → c < n → total c f + f c ≤ total n f
 unfolding total
@@ -51,7 +47,7 @@ module _ {channels : List Channel} {base : List ℕ} where
   bases_more {c} {sum} to h here =
       record {
         size = length-set base c sum ∙ to.size;
-        sums = filled_more base (λ i. total i (λ d. (channel_among channels d).capacity)) c sum (omega (arith, to.size)) to.sums here;
+        sums = rw here (fill_by_more (λ i. total i (λ d. (channel_among channels d).capacity)) base c 0 (omega (arith, to.size)) to.sums);
       }
 
 -- nodes from a number on are released never, where all were released at 0

@@ -33,6 +33,7 @@ fn sort_of(channel: &Channel) -> Sort
     }
 }
 
+// What each channel does with its tokens, by the number in its record.
 fn sorts(channels: &[Channel; 64]) -> [Sort; 64]
     requires { (c : ℕ) → c < 64 → (channel_among channels.now c).sort < 2 }
     ensures { map sort_number result ≡ tab 64 (λ c. (channel_among channels.now c).sort) }
@@ -80,7 +81,7 @@ struct Ways {
 // They are made from the last channel to the first, so that each one leads to what was the first.
 fn walks(channels: &[Channel]) -> Ways
     requires { length channels.now ≤ 64 }
-    ensures { WalksOf (length channels.now) channels.now result.first result.follow result.out result.outs }
+    ensures { WalksOf channels.now result.first result.follow result.out result.outs }
 {
     let mut first = [NONE; 32];
     let mut follow = [NONE; 64];
@@ -130,6 +131,7 @@ fn station(node: Node, first: u32, input: [u32; 4]) -> Station
 
 // ---- The set-up
 
+// The channels' and the nodes' records as the network has them, and what is made of them.
 fn plan(network: &Network) -> Plan
     requires { Fits network.now }
     ensures { PlanFields network.now result }
