@@ -5,7 +5,7 @@
 
 use kinds::Kind;
 
-// Behind the last channel: the end of a walk.
+// Behind the last channel: the end of a walk. A number, since with an Option there an activation takes more than its bar (`steps::put_all`).
 pub const NONE: u32 = 64;
 
 // What a channel does with its tokens.

@@ -192,13 +192,14 @@ impl Text<'_> {
                 );
                 self.put_run(input.horizon, &words, answer);
             }
+            // 13 is of the listing alone, and no `Refusal`: the rules' `listing` has the number.
             None => self.put_line(b"refused", &[13, 0]),
         }
     }
 }
 
 // The listing of the bytes of standard input, in front of the text; answers its length. A text shorter than SIZE is not touched, and the
-// answer is then 0.
+// answer is then 0, as `Listed` has it.
 pub fn listing(s: &[u8], text: &mut [u8]) -> usize
     ensures { Listed s.now text.old text.new result }
 {

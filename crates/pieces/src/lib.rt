@@ -91,6 +91,7 @@ fn end_ok(nodes: usize, n: u32) -> bool
     ((n as usize) < nodes) | (n == OUTSIDE)
 }
 
+// The tests of a channel's record, whose sort is a number: the definition `channel_ok` has them so.
 #[tactic(auto, unfolding(rules::specs::Network::channel_ok))]
 fn channel_ok(nodes: usize, ch: Channel) -> bool
     ensures { result ≡ channel_ok nodes ch }

@@ -15,7 +15,8 @@ fn wrap(x: u32, capacity: u32) -> u32
     if x < capacity { x } else { x - capacity }
 }
 
-// Writes a token to channel `c`: a queue appends it, a register keeps it. Answers `full`, or `c` where that is lower and there was no room.
+// Writes a token to channel `c`: a queue appends it, a register keeps it. Answers `full`, or `c` where that is lower and there was no room:
+// a number of a channel or, for none, of all channels, as the clause `answer` has it.
 #[tactic(auto, using(crate::proofs::AccessLaws::sort_seen, crate::proofs::AccessLaws::head_seen, crate::proofs::AccessLaws::len_seen), unfolding(crate::specs::Rings::wrapped, crate::specs::Access::put_in, crate::specs::Access::full_by))]
 pub fn put(plan: &Plan, state: &mut State, c: usize, v: i32, full: usize) -> usize
     requires { Rings (shape_of plan.now) (cells_of state.old) × (c < channels_of plan.now) }

@@ -11,7 +11,7 @@ use std::fmt;
 // The number that stands for the outside, as a writer or a reader: a channel's record has it where its bits have it.
 pub const OUTSIDE: u32 = 63;
 
-// A node, as its 69 bits have it.
+// A node, as its 69 bits have it, with numbers for kinds that are not there too: the definition `node_at` is of this record.
 #[derive(Clone, Copy, Debug, Default, PartialEq, Eq)]
 pub struct Node {
     pub kind: u32,
@@ -20,7 +20,7 @@ pub struct Node {
     pub constant: i32,
 }
 
-// A channel, as its 29 bits have it. Its tokens stand beside it.
+// A channel, as its 29 bits have it: the definition `channel_at` is of this record. Its tokens stand beside it.
 #[derive(Clone, Copy, Debug, Default, PartialEq, Eq)]
 pub struct Channel {
     pub sort: u32,

@@ -1,4 +1,6 @@
-// One instant of a run, in the steps of document 01's "One instant", a function for each, on the plan and the state that a run lends.
+// One instant of a run, in the steps of document 01's "One instant", a function for each, on the plan and the state that a run lends. The plan is
+// lent beside the state: that it stays is then in its type, and would else be a clause of each function here. What is asked of the two (`AbleIn`,
+// `Whole`, `Timely`) is no invariant of a type, since `rings` asks less and `setup` makes them field by field.
 #![tactic(auto)]
 
 ghost use Rattle.std.specs.Prelude.{◌≡◌, ℕ, ◌↔◌, IsTrue, ◌+◌, ◌*◌, ◌^◌, ◌≤◌, ◌<◌, min, length, get_or};
@@ -289,7 +291,8 @@ pub enum Stop {
     Short,
 }
 
-// The words and the reads, once no queue is overfull.
+// The words and the reads, once no queue is overfull. The list and the count of its words stand apart here and in `instant`, whose clause `says` has
+// them so.
 fn words_and_reads(
     plan: &Plan,
     state: &mut State,

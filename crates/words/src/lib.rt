@@ -1,4 +1,4 @@
-// A word, an arrival or an output: its channel, its time and its value.
+// A word, an arrival or an output: its channel, its time and its value, a function for each definition of the rules.
 #![tactic(auto)]
 
 ghost use Rattle.std.specs.Prelude.{◌≡◌, ◌^◌, ◌<◌};
