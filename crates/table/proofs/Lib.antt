@@ -1,9 +1,8 @@
 pub mod LaidLaws
-pub mod NodeTurn
+pub mod Nodes
 pub mod Tokens
 pub mod Piece
 pub mod Places
-pub mod Extents
 pub mod ChannelTurn
 pub mod Ports
 pub mod Whole
