@@ -109,7 +109,8 @@ fn run_taken(
     if late {
         return Err(Refusal::Horizon);
     }
-    let (plan, mut state) = setup::prepare(network);
+    let plan = setup::plan(network);
+    let mut state = setup::state(network);
     if let Some(faulty) = faulty_arrival(&plan, arrivals) {
         return Err(Refusal::Arrival(faulty));
     }

@@ -131,8 +131,11 @@ fn station(node: Node, first: u32, input: [u32; 4]) -> Station
 
 // ---- The set-up
 
+// The hints on inlining keep the stack that a run takes within the header's figure: each of the two is made where it stays.
+
 // The channels' and the nodes' records as the network has them, and what is made of them.
-fn plan(network: &Network) -> Plan
+#[inline(never)]
+pub fn plan(network: &Network) -> Plan
     requires { Fits network.now }
     ensures { PlanFields network.now result }
 {
@@ -159,7 +162,8 @@ fn plan(network: &Network) -> Plan
 }
 
 // Every ring begins at its base with its initial tokens, every node is released at 0, nothing waits, and each pair's earliest instant is 0.
-fn state(network: &Network) -> State
+#[inline(never)]
+pub fn state(network: &Network) -> State
     requires { Fits network.now }
     ensures { StateFields network.now result }
 {
@@ -174,12 +178,4 @@ fn state(network: &Network) -> State
         value: [0; 32],
         soon: [0; 16],
     }
-}
-
-// The plan and the state of a network before its first instant.
-pub fn prepare(network: &Network) -> (Plan, State)
-    requires { Lawful network.now }
-    ensures { (net : Rules) → Obeys net → network.now ≡ laid net → Starts net result.0 result.1 }
-{
-    (plan(network), state(network))
 }

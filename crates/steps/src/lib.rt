@@ -190,7 +190,7 @@ fn release(plan: &Plan, state: &mut State, before: Pending, n: usize) -> Pending
     ensures released { Released (wires_of plan.now) (shape_of plan.now) (cells_of state.old) n (seen before) (cells_of state.new) (seen result) }
     ensures nodes { nodes_from state.new ≡ nodes_from state.old }
 {
-    let node = plan.node[n];
+    let node = &plan.node[n];
     match take_inputs(plan, state, n, node.count) {
         Some(tokens) => {
             let [a, b, c] = tokens;
