@@ -110,10 +110,10 @@ fn run_taken(
         return Err(Refusal::Horizon);
     }
     let plan = setup::plan(network);
-    let mut state = setup::state(network);
     if let Some(faulty) = faulty_arrival(&plan, arrivals) {
         return Err(Refusal::Arrival(faulty));
     }
+    let mut state = setup::state(network);
     Ok(run_prepared(&plan, &mut state, horizon as u32, arrivals, list))
 }
 

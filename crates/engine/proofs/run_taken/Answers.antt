@@ -2,7 +2,7 @@
 use Rattle.std.proofs.Common.{arith}
 use Rattle.engine.proofs.EntryLaws.{late_refused, arrivals_faultless, faulty_refused, through_instants}
 use Rattle.setup.proofs.StartFits.{lawful_fits}
-use Rattle.setup.proofs.StartLaws.{starts}
+use Rattle.setup.proofs.StartLaws.{plan_planned, starts}
 use Rattle.engine.proofs.run_taken.Goals as goal
 
 pub returns-then-late : goal.returns-then-late
@@ -11,7 +11,7 @@ returns-then-late c = λ net obeys from. search (arith, late_refused)
 pub returns-in-Some : goal.returns-in-Some
 returns-in-Some c =
     λ net obeys from.
-    faulty_refused (starts c.plan-plan.ensures c.state-state.ensures net obeys from).planned _ _ _ (omega arith) c.in-Some.ensures
+    faulty_refused (plan_planned c.plan-plan.ensures net obeys from) _ _ _ (omega arith) c.in-Some.ensures
 
 pub returns : goal.returns
 returns c =
