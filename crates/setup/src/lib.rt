@@ -122,8 +122,10 @@ fn releases(nodes: usize) -> [u32; 32]
 
 // ---- The set-up
 
-// The channels' and the nodes' records as the network has them, and what is made of them.
-fn plan(network: &Network) -> Plan
+// The channels' and the nodes' records as the network has them, and what is made of them. The hint keeps the stack
+// that a run takes within the header's figure, as the next one does.
+#[inline(never)]
+fn plan_of(network: &Network) -> Plan
     requires { Fits network.now }
     ensures { PlanFields network.now result }
 {
@@ -156,7 +158,8 @@ fn plan(network: &Network) -> Plan
 }
 
 // Every ring begins at its base with its initial tokens, every node is released at 0, nothing waits, and each pair's earliest instant is 0.
-fn state(network: &Network) -> State
+#[inline(never)]
+fn state_of(network: &Network) -> State
     requires { Fits network.now }
     ensures { StateFields network.now result }
 {
@@ -171,10 +174,12 @@ fn state(network: &Network) -> State
     }
 }
 
-// The plan and the state of a network before its first instant.
-pub fn prepare(network: &Network) -> (Plan, State)
+// The plan and the state of a network before its first instant. They are written where a run keeps them: answered as a pair they are copied, and
+// a run takes more stack than the header's figure.
+pub fn prepare(network: &Network, plan: &mut Plan, state: &mut State)
     requires { Lawful network.now }
-    ensures { (net : Rules) → Obeys net → network.now ≡ laid net → Starts net result.0 result.1 }
+    ensures { (net : Rules) → Obeys net → network.now ≡ laid net → Starts net plan.new state.new }
 {
-    (plan(network), state(network))
+    *plan = plan_of(network);
+    *state = state_of(network);
 }

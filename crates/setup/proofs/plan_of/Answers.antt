@@ -3,25 +3,23 @@ use Rattle.std.proofs.Common.{◌≡◌, refl, rules, pos, arith, ◌<◌}
 use Rattle.std.proofs.Math.ListN.{get_or-map}
 use Rattle.kinds.specs.declared.Kind.{Kind}
 use Rattle.kinds.specs.Kind.{kind_number}
-use Rattle.table.specs.declared.Network.{Network}
 use Rattle.setup.proofs.FromFn.{tabled}
-use Rattle.setup.proofs.plan.Goals as goal
+use Rattle.setup.proofs.plan_of.Goals as goal
 
 pub returns : goal.returns
 returns c =
-    let a : Network = c.args.network.now in
     record {
       nodes = refl;
       channels = refl;
       sort = c.sorts.ensures;
       base = c.bases.ensures;
-      capacity = tabled (λ p. p.0.now ≡ a) _ (λ p q i y kept called. search rules) 0 c.from_fn.ensures.items refl;
-      writer = tabled (λ p. p.0.now ≡ a) _ (λ p q i y kept called. search rules) 0 c.from_fn-2.ensures.items refl;
+      capacity = tabled (λ p. p.0.now ≡ c.args.network.now) _ (λ p q i y kept called. search rules) 0 c.from_fn.ensures.items refl;
+      writer = tabled (λ p. p.0.now ≡ c.args.network.now) _ (λ p q i y kept called. search rules) 0 c.from_fn-2.ensures.items refl;
       walks = c.walks-out.ensures;
       kind = c.kinds-kind.ensures;
-      constant = tabled (λ p. p.0.now ≡ a) _ (λ p q i y kept called. search rules) (pos 0) c.from_fn-3.ensures.items refl;
-      period = tabled (λ p. p.0.now ≡ a) _ (λ p q i y kept called. search rules) 0 c.from_fn-4.ensures.items refl;
-      deadline = tabled (λ p. p.0.now ≡ a) _ (λ p q i y kept called. search rules) 0 c.from_fn-5.ensures.items refl;
+      constant = tabled (λ p. p.0.now ≡ c.args.network.now) _ (λ p q i y kept called. search rules) (pos 0) c.from_fn-3.ensures.items refl;
+      period = tabled (λ p. p.0.now ≡ c.args.network.now) _ (λ p q i y kept called. search rules) 0 c.from_fn-4.ensures.items refl;
+      deadline = tabled (λ p. p.0.now ≡ c.args.network.now) _ (λ p q i y kept called. search rules) 0 c.from_fn-5.ensures.items refl;
       count = record {
         size = c.map.ensures.items.long;
         each = λ i h.

@@ -1,7 +1,7 @@
 -- Each field is as the network has it or the same for each entry.
 use Rattle.std.proofs.Common.{◌≡◌, refl, rules}
 use Rattle.setup.proofs.FromFn.{tabled}
-use Rattle.setup.proofs.state.Goals as goal
+use Rattle.setup.proofs.state_of.Goals as goal
 
 pub returns : goal.returns
 returns c =
