@@ -8,14 +8,15 @@ use kinds::Kind;
 pub const NONE: u32 = 64;
 
 // What a channel does with its tokens.
-#[derive(Clone, Copy, Debug, PartialEq, Eq)]
+#[derive(Clone, Copy, Debug, Default, PartialEq, Eq)]
 pub enum Sort {
+    #[default]
     Queue,
     Register,
 }
 
 // What stays over a run.
-#[derive(Clone, Copy)]
+#[derive(Clone, Copy, Default)]
 pub struct Plan {
     // How many nodes and channels there are, and the first channel to the outside.
     pub nodes: u32,
@@ -40,7 +41,7 @@ pub struct Plan {
 }
 
 // What changes over a run.
-#[derive(Clone, Copy)]
+#[derive(Clone, Copy, Default)]
 pub struct State {
     // Of each channel: the place of its oldest token and how many it holds; and the tokens of all rings.
     pub head: [u32; 64],
