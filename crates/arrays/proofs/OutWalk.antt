@@ -13,7 +13,7 @@ use borrow.Author.Tests.{leb-true, leb-false, lt-ltb, le-ltb, eq-eqb, ne_eqb}
 use Rattle.rules.specs.Kinds.{signed}
 use Rattle.rules.specs.Instant.{word}
 use Rattle.rules.proofs.ListLaws.{by_test}
-use Rattle.arrays.specs.Writes.{Walk, Climbs, words_below, Gathered}
+use Rattle.arrays.specs.Writes.{Walk, Climbs, words_below}
 use Rattle.arrays.proofs.WalkLaws.{IsNext, starts_at, goes_on_law}
 
 module _ (t : ℕ) (writer due value : List ℕ) where
@@ -103,8 +103,3 @@ module _ {t : ℕ} {writer due value : List ℕ} {channels : ℕ} {follow : List
               let before : take count words ≡ words_below c t writer due value outs = rw reached at (so.gathers outs walk) in
               rw (words_over t writer due value outs (suc c) (min (get_or follow c 0) channels) (omega arith) (next outs walk).without, so.on outs walk inside, turn.adds, before);
         }
-
-    pub gathered_all : 64 ≤ c → Gathered channels t follow first writer due value words count
-    gathered_all over =
-        let all : min c channels ≡ channels = omega (arith, climbs.few) in
-        record { few = omega (arith, so.few); gathers = λ outs walk. rw all at (so.gathers outs walk) }

@@ -31,8 +31,8 @@ pub record WritesStand (net : Network) (arrivals : List ℕ) (t : ℕ) (st : Sta
   pub lowest_full : full ≡ lowest (length net.channels) (overfull net (after_writes net arrivals t st))
   pub held : full ≡ length net.channels → (c : ℕ) → c < length net.channels → held_in (after_writes net arrivals t st) c ≡ map signed (held_at s z c)
 
-none_signed : (l : List ℕ) → map signed l ≡ [] → l ≡ []
-none_signed l h = nil_from_length l (sym (length-map l signed) ∙ ap length h)
+map_none : (l : List ℕ) → map signed l ≡ [] → l ≡ []
+map_none l h = nil_from_length l (sym (length-map l signed) ∙ ap length h)
 
 -- the new tokens of channel c: those that are due, and those that arrive
 abbrev due_to : Network → ℕ → Pendings → ℕ → List ℕ
@@ -55,9 +55,9 @@ module _ (net : Network) (arrivals : List ℕ) (t : ℕ) (st : State) (s : Shape
             ap₂ ◌++◌ (rep.held c below) (ap₂ ◌++◌ (sym due) (sym values) ∙ sym (map-append signed (due_to net t p c) (values_on arrivals from (next - from) c)))
             ∙ sym (map-append signed (held_at s x c) (new_to net arrivals t p from next c));
         out = λ e.
-            let none_held = none_signed (held_at s x c) (sym (rep.held c below) ∙ sound.out c below e) in
+            let none_held = map_none (held_at s x c) (sym (rep.held c below) ∙ sound.out c below e) in
             let none_due_law = due_out net t p.due p.value c (length net.nodes) e in
-            let none_come = none_signed (values_on arrivals from (next - from) c) (values ∙ nothing_arrives_out net arrivals obeys faultless t c below e) in
+            let none_come = map_none (values_on arrivals from (next - from) c) (values ∙ nothing_arrives_out net arrivals obeys faultless t c below e) in
             ap₂ ◌++◌ none_held (ap₂ ◌++◌ none_due_law none_come);
       }
 

@@ -53,12 +53,17 @@ put_by p s c v full false false e f rings h before =
       nodes = refl;
     }
 
--- so it is of the state and the answer that `put` promises
+pub put_wrote : (p : Plan) (s : State) (c : ℕ) (v : ℤ) (full : ℕ) → Rings (shape_of p) (cells_of s) → c < channels_of p → full ≤ channels_of p
+    → PutDone p s c (pattern v) full (put_in p s c v) (full_by p s c full)
+unfolding put_in full_by
+put_wrote p s c v full rings h before =
+    put_by p s c v full (register_at (shape_of p) c) (has_room_in p s c) refl refl rings h before
+
+-- the same of the state and the answer that `put` promises
 pub put_done : {p : Plan} {s z : State} {c : ℕ} (v : ℤ) {full r : ℕ} → z ≡ put_in p s c v → r ≡ full_by p s c full → Rings (shape_of p) (cells_of s) → c < channels_of p → full ≤ channels_of p
     → PutDone p s c (pattern v) full z r
-unfolding put_in full_by
 put_done {p} {s} {c = c} v {full = full} after answer rings h before =
-    rw (after, answer) (put_by p s c v full (register_at (shape_of p) c) (has_room_in p s c) refl refl rings h before)
+    rw (after, answer) (put_wrote p s c v full rings h before)
 
 -- what is read at the head is the oldest token
 oldest : (p : Plan) (s : State) (c : ℕ) → 1 ≤ get_or (cells_of s).len c 0 → pattern (oldest_in p s c) ≡ oldest_of (held_at (shape_of p) (cells_of s) c)

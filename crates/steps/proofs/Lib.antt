@@ -1,2 +1,2 @@
-pub mod Lacking
+pub mod Inputs
 pub mod StepOnce

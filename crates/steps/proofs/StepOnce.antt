@@ -13,7 +13,11 @@ use Rattle.rules.specs.Network.{Network, node_of}
 use Rattle.rules.specs.Instant as rules
 use Rattle.rules.specs.Instant.{State, Waiting, stops, goes}
 use Rattle.rules.proofs.ListLaws.{by_test}
-use Rattle.steps.specs.declared.Step.{Step}
+use Rattle.std.specs.Prelude.{Result, Ok, Err}
+use Rattle.steps.specs.declared.On.{On}
+use Rattle.steps.specs.declared.Stop.{Stop}
+use Rattle.layout.specs.declared.Plan.{Plan}
+use Rattle.layout.specs.declared.State as layout
 use Rattle.layout.specs.Views.{Shape, Cells, Pendings, shape_of, cells_of, pendings_of}
 use Rattle.kinds.specs.Nodes.{never, waiting_by}
 use Rattle.arrays.specs.Writes.{arrival_at}
@@ -85,31 +89,31 @@ abbrev state_in : State → rules.Step → State
 state_in st (stops number channel) = st
 state_in st (goes words state) = state
 
-module _ (net : Network) (arrivals p : List ℕ) (t : ℕ) (st : State) (out : List ℕ) (count : ℕ) (after list y z : List ℕ) where
-  went_on_once : (more next soon many on moment : ℕ) → WentOn net arrivals p t st out count after more next soon y → WentOn net arrivals p t st out count list many on moment z
-      → (Step.On more next soon ≡ Step.On many on moment) × (after ≡ list)
-  went_on_once more next soon many on moment one other =
+module _ (net : Network) (arrivals : List ℕ) (p : Plan) (t : ℕ) (st : State) (out : List ℕ) (count : ℕ) (after list : List ℕ) (y z : layout.State) where
+  went_on_once : (a b : On) → WentOn net arrivals p t st out count after a.more a.next a.soon y → WentOn net arrivals p t st out count list b.more b.next b.soon z
+      → (a ≡ b) × (after ≡ list)
+  went_on_once a b one other =
       let same : goes one.words one.state ≡ goes other.words other.state = sym one.goes_on ∙ other.goes_on in
       let words : one.words ≡ other.words = ap words_in same in
       let state : one.state ≡ other.state = ap (state_in st) same in
-      let count_once : more ≡ many = sym one.many ∙ ap length words ∙ other.many in
-      let next_index : next ≡ on = cursor_once arrivals next on (suc t) one.cursor other.cursor in
+      let count_once : a.more ≡ b.more = sym one.many ∙ ap length words ∙ other.many in
+      let next_index : a.next ≡ b.next = cursor_once arrivals a.next b.next (suc t) one.cursor other.cursor in
       let represents : Represents net (shape_of p) (suc t) other.state (cells_of y) (pendings_of y) = rw state at one.represents in
-      let moment_once : soon ≡ moment =
+      let moment_once : a.soon ≡ b.soon =
       one.earliest ∙ ap (λ i. soonest (pendings_of y) (arrival_at arrivals i) (length net.nodes)) next_index
-      ∙ soonest_once net (shape_of p) (suc t) other.state (cells_of y) (cells_of z) (pendings_of y) (pendings_of z) represents other.represents (arrival_at arrivals on) (length net.nodes) (omega arith)
+      ∙ soonest_once net (shape_of p) (suc t) other.state (cells_of y) (cells_of z) (pendings_of y) (pendings_of z) represents other.represents (arrival_at arrivals b.next) (length net.nodes) (omega arith)
       ∙ sym other.earliest in (
-        (λ i. Step.On (count_once i) (next_index i) (moment_once i)),
+        (λ i. record { more = count_once i; next = next_index i; soon = moment_once i }),
         one.list ∙ (λ i. take count out ++ (words i ++ drop (count + count_once i) out)) ∙ sym other.list,
       )
 
-  pub step_once : (r a : Step) → StepSays net arrivals p t st out count r after y → StepSays net arrivals p t st out count a list z → (r ≡ a) × (after ≡ list)
-  step_once (Step.Full c) (Step.Full d) one other = (ap (λ step. Step.Full (channel_at step)) (sym one.0 ∙ other.0), one.1 ∙⁻¹ other.1)
-  step_once (Step.Full c) Step.Short one other = absurd (omega (arith, ap number_in (sym one.0 ∙ other.0)))
-  step_once (Step.Full c) (Step.On more next soon) one other = absurd (omega (arith, ap number_in (sym one.0 ∙ other.goes_on)))
-  step_once Step.Short (Step.Full d) one other = absurd (omega (arith, ap number_in (sym one.0 ∙ other.0)))
-  step_once Step.Short Step.Short one other = (refl, one.1 ∙⁻¹ other.1)
-  step_once Step.Short (Step.On more next soon) one other = absurd (omega (arith, ap number_in (sym one.0 ∙ other.goes_on)))
-  step_once (Step.On more next soon) (Step.Full d) one other = absurd (omega (arith, ap number_in (sym one.goes_on ∙ other.0)))
-  step_once (Step.On more next soon) Step.Short one other = absurd (omega (arith, ap number_in (sym one.goes_on ∙ other.0)))
-  step_once (Step.On more next soon) (Step.On many on moment) one other = went_on_once more next soon many on moment one other
+  pub step_once : (r a : Result On Stop) → StepSays net arrivals p t st out count r after y → StepSays net arrivals p t st out count a list z → (r ≡ a) × (after ≡ list)
+  step_once (Err (Stop.Full c)) (Err (Stop.Full d)) one other = (ap (λ step. Err (Stop.Full (channel_at step))) (sym one.0 ∙ other.0), one.1 ∙⁻¹ other.1)
+  step_once (Err (Stop.Full c)) (Err Stop.Short) one other = absurd (omega (arith, ap number_in (sym one.0 ∙ other.0)))
+  step_once (Err (Stop.Full c)) (Ok on) one other = absurd (omega (arith, ap number_in (sym one.0 ∙ other.goes_on)))
+  step_once (Err Stop.Short) (Err (Stop.Full d)) one other = absurd (omega (arith, ap number_in (sym one.0 ∙ other.0)))
+  step_once (Err Stop.Short) (Err Stop.Short) one other = (refl, one.1 ∙⁻¹ other.1)
+  step_once (Err Stop.Short) (Ok on) one other = absurd (omega (arith, ap number_in (sym one.0 ∙ other.goes_on)))
+  step_once (Ok on) (Err (Stop.Full d)) one other = absurd (omega (arith, ap number_in (sym one.goes_on ∙ other.0)))
+  step_once (Ok on) (Err Stop.Short) one other = absurd (omega (arith, ap number_in (sym one.goes_on ∙ other.0)))
+  step_once (Ok on) (Ok more) one other = let so = went_on_once on more one other in (ap Ok so.0, so.1)

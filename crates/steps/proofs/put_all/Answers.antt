@@ -1,7 +1,10 @@
 -- A turn writes the value to channel c of the walk, and goes on to the next one.
-use Rattle.std.proofs.Common.{ℕ, List, ◌<◌, min, get_or, refl, ◌∙◌, arith}
+use Rattle.std.proofs.Common.{ℕ, ◌<◌, min, get_or, refl, ◌∙◌, arith}
+use Rattle.rules.specs.Kinds.{signed, pattern}
+use Rattle.rules.proofs.KindLaws.{signed_pattern}
+use Rattle.layout.specs.declared.Plan.{Plan}
+use Rattle.layout.specs.declared.State.{State}
 use Rattle.layout.specs.Views.{channels_of, ways_of}
-use Rattle.layout.proofs.FieldLaws.{channel_seen}
 use Rattle.rings.specs.Access.{PutDone}
 use Rattle.rings.proofs.AccessLaws.{put_done}
 use Rattle.arrays.specs.Writes.{Climbs}
@@ -9,7 +12,7 @@ use Rattle.arrays.proofs.WalkLaws.{walk_starts, walk_turn, walk_ends}
 use Rattle.steps.proofs.put_all.Invariants.{AlongTo}
 use Rattle.steps.proofs.put_all.Goals as goal
 
-along : {p s y z : List ℕ} {first v before c full r : ℕ} → Climbs (channels_of p) (ways_of p).follow first → c < 64 → AlongTo p s first v before c y full → PutDone p y c v full z r → AlongTo p s first v before (get_or (ways_of p).follow c 0) z r
+along : {p : Plan} {s y z : State} {first v before c full r : ℕ} → Climbs (channels_of p) (ways_of p).follow first → c < 64 → AlongTo p s first v before c y full → PutDone p y c v full z r → AlongTo p s first v before (get_or (ways_of p).follow c 0) z r
 along climbs h to put =
     record {
       full = min to.full put.full;
@@ -21,20 +24,13 @@ along climbs h to put =
 pub loop-c-init : goal.loop-c-init
 loop-c-init c = record { full = _; walked = walk_starts c.requires.1 c.requires.0; least = omega (arith, c.requires.2); nodes = refl }
 
-pub loop-c-smaller : goal.loop-c-smaller
-loop-c-smaller c =
-    let next = c.index-c.ensures ∙ (channel_seen c.args.plan.now c.loop-c.state c.loop-c.c c.loop-c-test.true).follow in
-    omega (arith, next, c.requires.1.up c.loop-c.c (c.loop-c.invariant.walked.inside c.loop-c-test.true))
-
 pub loop-c-preserved : goal.loop-c-preserved
 loop-c-preserved c =
-    let h = c.loop-c-test.true in
     let to = c.loop-c.invariant in
-    rw (c.index-c.ensures ∙ (channel_seen c.args.plan.now c.loop-c.state c.loop-c.c h).follow)
-    (along c.requires.1 h to
-    (put_done c.put-full.ensures.after c.put-full.ensures.answer to.walked.rings (to.walked.inside h) (omega (arith, to.least, c.requires.2))))
+    along c.requires.1 c.loop-c-test.true to
+    (put_done (signed (pattern c.args.v)) c.put-full.ensures.after c.put-full.ensures.answer to.walked.rings (to.walked.inside c.loop-c-test.true) (omega (arith, to.least, c.requires.2)))
 
 pub returns : goal.returns
 returns c =
     let to = c.loop-c.invariant in
-    record { full = to.full; wrote = walk_ends c.requires.1 c.loop-c-test.false to.walked; least = to.least; nodes = to.nodes }
+    record { full = to.full; wrote = rw (signed_pattern c.args.v c.ranges.v) at (walk_ends c.requires.1 c.loop-c-test.false to.walked); least = to.least; nodes = to.nodes }
