@@ -50,6 +50,7 @@ fn kinds(nodes: &[Node; 32]) -> [Kind; 32]
 }
 
 // The base of each ring: the capacities of the channels before it together.
+#[tactic(auto, unfolding(rules::specs::Lists::total))]
 fn bases(channels: &[Channel]) -> [u32; 64]
     requires { (length channels.now ≤ 64) × (total (length channels.now) (λ c. (channel_among channels.now c).capacity) ≤ 1024) }
     ensures { BasesOf (length channels.now) channels.now result }
