@@ -56,7 +56,7 @@ pub record Entries (net : Network) (p : Plan) : Type 0 where
   pub base : (c : ℕ) → c < length net.channels → get_or p.base c 0 ≡ capacities net c
   pub capacity : (c : ℕ) → c < length net.channels → get_or p.capacity c 0 ≡ (channel_of net c).capacity
   pub writer : (c : ℕ) → c < length net.channels → get_or p.writer c 0 ≡ (channel_of net c).writer
-  pub walks : WalksOf (length net.channels) net.channels (ways_of p).first p.follow p.out p.outs
+  pub walks : WalksOf net.channels (ways_of p).first p.follow p.out p.outs
   pub input : PortsOf (length net.channels) net.channels (wires_of p).input
 
 -- and a state those of its channels' initial tokens

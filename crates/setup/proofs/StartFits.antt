@@ -2,7 +2,6 @@
 -- their bits and kinds of the list. Assumes nothing.
 use Prim.Native.Nat.{ℕ, ◌<◌}
 use native.Mathlib.Omega.{arith}
-use mathlib.Core.Path.{refl}
 use lib.Dec.{ltb}
 use lib.ListN.{length}
 use borrow.Author.Tests.{ltb-true, ltb-false}
@@ -41,7 +40,6 @@ laid_fits net obeys =
       ports = rw (channels_laid net obeys) (λ c h. (obeys.in_bits c h).port);
       sorts = sort_bits net obeys;
       kinds = kind_listed net obeys;
-      channels = rw (channels_laid net obeys) refl;
     }
 
 pub lawful_fits : {a : table.Network} → Lawful a → Fits a

@@ -162,7 +162,7 @@ module _ {channels : List Channel} {k : ℕ} {first follow : List ℕ} {first_ou
           outs = passes_out;
         }
 
-pub walks_end : {channels : List Channel} {first follow : List ℕ} {first_out : ℕ} {follow_out : List ℕ} → WalksDown channels 0 first follow first_out follow_out → WalksOf (length channels) channels first follow first_out follow_out
+pub walks_end : {channels : List Channel} {first follow : List ℕ} {first_out : ℕ} {follow_out : List ℕ} → WalksDown channels 0 first follow first_out follow_out → WalksOf channels first follow first_out follow_out
 walks_end down = record { firsts = down.firsts; walks = λ m under. down_ends (down.walks m under); outs = down_ends down.outs }
 
 -- ---- The loop over the channels, the last one first
@@ -213,5 +213,5 @@ module _ {channels left : List Channel} {count then c first_out : ℕ} {first fo
     pub left_pass : 32 ≤ last.writer → WalksLeft channels then rest first follow first_out follow_out
     left_pass outer = rest_left (walks_pass rest_down rest_under (rw rest_there inner) (rw rest_there outer))
 
-pub left_none : {channels left : List Channel} {count : ℕ} {first follow : List ℕ} {first_out : ℕ} {follow_out : List ℕ} → WalksLeft channels count left first follow first_out follow_out → length left ≡ 0 → WalksOf (length channels) channels first follow first_out follow_out
+pub left_none : {channels left : List Channel} {count : ℕ} {first follow : List ℕ} {first_out : ℕ} {follow_out : List ℕ} → WalksLeft channels count left first follow first_out follow_out → length left ≡ 0 → WalksOf channels first follow first_out follow_out
 left_none walks none = walks_end (rw none at walks.down)

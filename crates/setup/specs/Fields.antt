@@ -37,7 +37,6 @@ pub record Fits (a : Network) : Type 0 where
   pub ports : (c : ℕ) → c < length (channels_in a) → (channel_among (channels_in a) c).port < 4
   pub sorts : (c : ℕ) → c < 64 → (channel_among a.channel c).sort < 2
   pub kinds : (n : ℕ) → n < 32 → (node_among a.node n).kind < 12
-  pub channels : length (channels_in a) ≡ a.channels
 
 -- a plan has how many nodes and channels there are, each channel's sort, ring and writer, each node's record and how many inputs it has, the
 -- walks, and the channels at the ports
@@ -45,16 +44,16 @@ pub record PlanFields (a : Network) (p : Plan) : Type 0 where
   pub nodes : p.nodes ≡ a.nodes
   pub channels : p.channels ≡ a.channels
   pub sort : map sort_number p.sort ≡ tab Cs (λ c. (channel_among a.channel c).sort)
-  pub base : BasesOf a.channels (channels_in a) p.base
+  pub base : BasesOf (length (channels_in a)) (channels_in a) p.base
   pub capacity : p.capacity ≡ tab Cs (λ c. (channel_among a.channel c).capacity)
   pub writer : p.writer ≡ tab Cs (λ c. (channel_among a.channel c).writer)
-  pub walks : WalksOf a.channels (channels_in a) (ways_of p).first p.follow p.out p.outs
+  pub walks : WalksOf (channels_in a) (ways_of p).first p.follow p.out p.outs
   pub kind : (wires_of p).kind ≡ tab Ns (λ n. (node_among a.node n).kind)
   pub constant : (wires_of p).constant ≡ tab Ns (λ n. pattern (node_among a.node n).constant)
   pub period : (wires_of p).period ≡ tab Ns (λ n. (node_among a.node n).period)
   pub deadline : (wires_of p).deadline ≡ tab Ns (λ n. (node_among a.node n).deadline)
   pub count : CountsOf a.nodes (wires_of p).kind (wires_of p).count
-  pub input : PortsOf a.channels (channels_in a) (wires_of p).input
+  pub input : PortsOf (length (channels_in a)) (channels_in a) (wires_of p).input
 
 -- in a state every ring begins at its base with its initial tokens, every node is released at 0, nothing waits, and each pair's earliest
 -- instant is 0

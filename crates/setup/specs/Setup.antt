@@ -41,10 +41,10 @@ pub record WalkOver (channels : ℕ) (follow : List ℕ) (first : ℕ) (mine : �
   pub climbs : Climbs channels follow first
 
 -- the walks over the channels that each node writes and a node reads, and the walk over those that no node reads
-pub record WalksOf (c : ℕ) (channels : List Channel) (first follow : List ℕ) (first_out : ℕ) (follow_out : List ℕ) : Type 0 where
+pub record WalksOf (channels : List Channel) (first follow : List ℕ) (first_out : ℕ) (follow_out : List ℕ) : Type 0 where
   pub firsts : length first ≡ 32
-  pub walks : (n : ℕ) → n < 32 → WalkOver c follow (get_or first n 0) (inner_of channels n)
-  pub outs : WalkOver c follow_out first_out (outer_of channels)
+  pub walks : (n : ℕ) → n < 32 → WalkOver (length channels) follow (get_or first n 0) (inner_of channels n)
+  pub outs : WalkOver (length channels) follow_out first_out (outer_of channels)
 
 -- how many inputs each of the first n nodes has
 pub record CountsOf (n : ℕ) (kind count : List ℕ) : Type 0 where

@@ -3,34 +3,36 @@ use Rattle.std.proofs.Common.{◌≡◌, ℕ, ◌+◌, ◌<◌, true, false, con
 use Rattle.std.proofs.lemmas.List.{get_or-set_same, get_or-set_other}
 use borrow.Author.Tests.{ltb-true, ltb-false, lt-ltb, le-ltb}
 use Rattle.rules.specs.Kinds.{pattern}
-use Rattle.rules.proofs.ListLaws.{by_test, true_or_false, every_at, every_all}
+use Rattle.rules.proofs.ListLaws.{by_test, every_at, every_all}
 use Rattle.layout.specs.declared.Plan.{Plan}
 use Rattle.layout.specs.declared.State.{State}
-use Rattle.layout.specs.Views.{Shape, Cells, channels_of, shape_of, wires_of, cells_of}
+use Rattle.layout.specs.Views.{channels_of, shape_of, wires_of, cells_of}
 use Rattle.rings.proofs.StoreLaws.{by_channel}
 use Rattle.arrays.specs.Taking.{Ported, all_hold, found}
 use Rattle.arrays.specs.Instants.{RingsIn}
-use Rattle.arrays.proofs.InputLaws.{TakenTo, holds_at, taken_all}
+use Rattle.arrays.proofs.InputLaws.{TakenTo, taken_all}
 use Rattle.arrays.proofs.TakenPorts.{lengths_hold, found_behind, took_lacking}
-use Rattle.steps.specs.Steps.{TookIn}
+use Rattle.steps.specs.Steps.{holds_at, TookIn}
 
-module _ (s : Shape) (x : Cells) (input : List (List ℕ)) (n count : ℕ) where
-  pub every_holds : ((k : ℕ) → k < count → holds_at x input n k ≡ true) → all_hold s x input n count ≡ true
-  every_holds holds = sym (lengths_hold s x input n count) ∙ every_all count (holds_at x input n) holds
+-- every port holds a token
+abbrev AllHold : Plan → State → ℕ → ℕ → Type 0
+AllHold p s n count = (k : ℕ) → k < count → holds_at p s n k ≡ true
 
-  pub one_lacks : (k : ℕ) → k < count → holds_at x input n k ≡ false → all_hold s x input n count ≡ false
-  one_lacks k below lacks =
-      by_test (all_hold s x input n count)
-      (λ e. true_or_false (every_at count (holds_at x input n) (lengths_hold s x input n count ∙ e) k below) lacks)
-      (λ e. e)
+module _ (p : Plan) (s : State) (n count : ℕ) where
+  pub every_holds : AllHold p s n count → all_hold (shape_of p) (cells_of s) (wires_of p).input n count ≡ true
+  every_holds holds = sym (lengths_hold (shape_of p) (cells_of s) (wires_of p).input n count) ∙ every_all count (holds_at p s n) holds
 
--- where a port holds no token, nothing is taken and nothing is found
-pub lacking : (p : Plan) (s : State) (n count : ℕ) → RingsIn p s → all_hold (shape_of p) (cells_of s) (wires_of p).input n count ≡ false → TookIn p s n count s None
-lacking p s n count rings lacks =
-    record {
-      inputs = record { ready = sym lacks; took = took_lacking (wires_of p).input n count rings lacks; tokens = tt };
-      nodes = refl;
-    }
+  -- where one holds none, nothing is taken and nothing is found
+  pub lacking : RingsIn p s → (AllHold p s n count → ⊥) → TookIn p s n count s None
+  lacking rings other =
+      let lacks : all_hold (shape_of p) (cells_of s) (wires_of p).input n count ≡ false =
+      by_test (all_hold (shape_of p) (cells_of s) (wires_of p).input n count)
+      (λ e. absurd (other (every_at count (holds_at p s n) (lengths_hold (shape_of p) (cells_of s) (wires_of p).input n count ∙ e))))
+      (λ e. e) in
+      record {
+        inputs = record { ready = sym lacks; took = took_lacking (wires_of p).input n count rings lacks; tokens = tt };
+        nodes = refl;
+      }
 
 -- a list's entries are the first of some numbers, by their 32 bits, and 0 behind
 abbrev pub Begins : (ℕ → ℕ) → ℕ → List ℤ → Type 0

@@ -1,5 +1,5 @@
 -- What an instant comes to, and what its functions promise of their answers. Assumes nothing.
-use Rattle.std.specs.Prelude.{ℕ, ◌-◌, min, List, ◌≡◌, ℤ, pos, length, get_or, Option, is_some, IfSome, unwrap_or, Result, Ok, Err}
+use Rattle.std.specs.Prelude.{ℕ, ◌-◌, min, Bool, not, List, ◌≡◌, eqb, ℤ, pos, length, get_or, Option, is_some, IfSome, unwrap_or, Result, Ok, Err}
 use Rattle.rules.specs.Network as rules
 use Rattle.rules.specs.Kinds.{pattern}
 use Rattle.rules.specs.Instant.{State, stops, instant}
@@ -10,7 +10,7 @@ use Rattle.layout.specs.Views.{Shape, Cells, nodes_of, shape_of, wires_of, cells
 use Rattle.rings.specs.Rings.{Took}
 use Rattle.arrays.specs.Instants.{BeforeIn, WrittenIn, WentOn}
 use Rattle.arrays.specs.Writes.{WroteArrivals, arrival_at}
-use Rattle.arrays.specs.Taking.{all_hold, found, taken_at}
+use Rattle.arrays.specs.Taking.{port_of, all_hold, found, taken_at}
 use Rattle.steps.specs.declared.Arrived.{Arrived}
 use Rattle.steps.specs.declared.On.{On}
 use Rattle.steps.specs.declared.Stop.{Stop}
@@ -26,6 +26,10 @@ pub record WroteStamped (p : Plan) (s : layout.State) (arrivals : List ℕ) (fro
   pub least : r.full ≡ min before full
   pub time : time_of r ≡ arrival_at arrivals r.next
   pub nodes : nodes_from z ≡ nodes_from s
+
+-- the channel at port p of node n holds a token, by its ring's length
+abbrev pub holds_at : Plan → layout.State → ℕ → ℕ → Bool
+holds_at p s n k = not (eqb (get_or (cells_of s).len (port_of (wires_of p).input n k) 0) 0)
 
 -- a node with so many inputs: where every port holds a token, the tokens, taken, and 0 where the node has no such port; else nothing is taken
 pub record TookInputs (s : Shape) (x : Cells) (input : List (List ℕ)) (n count : ℕ) (y : Cells) (r : Option (List ℤ)) : Type 0 where

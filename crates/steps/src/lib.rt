@@ -1,7 +1,7 @@
 // One instant of a run, in the steps of document 01's "One instant", a function for each, on the plan and the state that a run lends.
 #![tactic(auto)]
 
-ghost use Rattle.std.specs.Prelude.{◌≡◌, not, ◌+◌, ◌*◌, ◌^◌, ◌≤◌, ◌<◌, min, eqb, length, get_or};
+ghost use Rattle.std.specs.Prelude.{◌≡◌, ℕ, ◌↔◌, IsTrue, ◌+◌, ◌*◌, ◌^◌, ◌≤◌, ◌<◌, min, length, get_or};
 ghost use Rattle.rules.specs.Kinds.{pattern};
 ghost use Rattle.kinds.specs.Nodes.{seen};
 ghost use Rattle.layout.specs.Views.{nodes_of, channels_of, shape_of, wires_of, ways_of, cells_of, pendings_of, soons_of, nodes_from};
@@ -10,14 +10,15 @@ ghost use Rattle.arrays.specs.Taking.{port_of, Ported};
 ghost use Rattle.arrays.specs.Nodes.{pending_at, pair_soon, Releasable, Released};
 ghost use Rattle.arrays.specs.Instants.{AbleIn, RingsIn, Whole, Timely, OnChannels};
 ghost use Rattle.arrays.specs.Turns.{WroteAlong, WroteOn, WroteAll, GatheredIn, TurnedIn, PairTurned, PairRead, ReadAll};
-ghost use Rattle.steps.specs.Steps.{WroteStamped, TookIn, RestSays, InstantSays};
+ghost use Rattle.steps.specs.Steps.{WroteStamped, holds_at, TookIn, RestSays, InstantSays};
 
 use kinds::{NEVER, Pending};
 use layout::{NONE, Plan, State};
 
 // ---- Step 1: writes
 
-// Writes a token to each channel of a walk. Answers the lowest one without room, or `before` where that is lower.
+// Writes a token to each channel of a walk. Answers the lowest one without room, or `before` where that is lower. A walk ends at a number, since
+// with an Option at its end an activation takes 93.4 instructions, where its bar is 93 (docs/DESIGN-PASS.md).
 fn put_all(plan: &Plan, state: &mut State, first: u32, v: i32, before: usize) -> usize
     requires { RingsIn plan.now state.old × Climbs (channels_of plan.now) (ways_of plan.now).follow first × (before ≤ channels_of plan.now) }
     ensures { WroteAlong plan.now state.old first (pattern v) before state.new result }
@@ -133,9 +134,17 @@ fn port(plan: &Plan, n: usize, p: usize) -> usize
 // Whether the channel at port `p` of node `n` holds a token.
 fn holds(plan: &Plan, state: &State, n: usize, p: usize) -> bool
     requires { (n < 32) × (p < 4) × (port_of (wires_of plan.now).input n p < 64) }
-    ensures { result ≡ not (eqb (get_or (cells_of state.now).len (port_of (wires_of plan.now).input n p) 0) 0) }
+    ensures { result ≡ holds_at plan.now state.now n p }
 {
     state.ring[port(plan, n, p)].len != 0
+}
+
+// Whether each of the `N` ports of node `n` holds a token.
+fn all_hold<const N: usize>(plan: &Plan, state: &State, n: usize) -> bool
+    requires { RingsIn plan.now state.now × (n < 32) × Ported (channels_of plan.now) (wires_of plan.now).input n N }
+    ensures { IsTrue result ↔ ((p : ℕ) → p < N → IsTrue (holds_at plan.now state.now n p)) }
+{
+    (0..N).all(|p| holds(plan, state, n, p))
 }
 
 // The tokens of a node with `N` inputs, taken, if every one of its ports holds one.
@@ -143,10 +152,8 @@ fn take_all<const N: usize>(plan: &Plan, state: &mut State, n: usize) -> Option<
     requires { RingsIn plan.now state.old × (n < 32) × Ported (channels_of plan.now) (wires_of plan.now).input n N }
     ensures { TookIn plan.now state.old n N state.new result }
 {
-    for p in 0..N {
-        if !holds(plan, state, n, p) {
-            return None;
-        }
+    if !all_hold::<N>(plan, state, n) {
+        return None;
     }
     let mut tokens = [0; N];
     for p in 0..N {
@@ -155,7 +162,8 @@ fn take_all<const N: usize>(plan: &Plan, state: &mut State, n: usize) -> Option<
     Some(tokens)
 }
 
-// Those of a node by the number of its inputs, and 0 for the ports that it has not. By a number that is known a loop over ports costs nothing.
+// Those of a node by the number of its inputs, and 0 for the ports that it has not. A match, since with a loop over a number of ports that is not
+// known before an activation takes 103 to 109 instructions, where its bar is 93 (docs/DESIGN-PASS.md).
 fn take_inputs(plan: &Plan, state: &mut State, n: usize, count: u32) -> Option<[i32; 3]>
     requires { RingsIn plan.now state.old × (n < 32) × Ported (channels_of plan.now) (wires_of plan.now).input n count }
     ensures { TookIn plan.now state.old n count state.new result }

@@ -1,3 +1,4 @@
+-- The part of the list that is filled is the nodes that are not there.
 use Rattle.std.proofs.Common.{refl}
 use Rattle.setup.proofs.SetupLaws.{releases_filled}
 use Rattle.setup.proofs.releases.Goals as goal

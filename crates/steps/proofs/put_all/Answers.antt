@@ -24,9 +24,6 @@ along climbs h to put =
 pub loop-c-init : goal.loop-c-init
 loop-c-init c = record { full = _; walked = walk_starts c.requires.1 c.requires.0; least = omega (arith, c.requires.2); nodes = refl }
 
-pub loop-c-smaller : goal.loop-c-smaller
-loop-c-smaller c = omega (arith, c.requires.1.up c.loop-c.c (c.loop-c.invariant.walked.inside c.loop-c-test.true))
-
 pub loop-c-preserved : goal.loop-c-preserved
 loop-c-preserved c =
     let to = c.loop-c.invariant in

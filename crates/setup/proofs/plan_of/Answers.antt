@@ -6,7 +6,7 @@ use Rattle.rules.proofs.ListLaws.{get_or_tab, length_tab}
 use Rattle.table.specs.declared.Network.{Network}
 use Rattle.setup.proofs.FromFn.{tabled}
 use Rattle.setup.proofs.Stations.{stations_of}
-use Rattle.setup.proofs.plan.Goals as goal
+use Rattle.setup.proofs.plan_of.Goals as goal
 
 pub returns : goal.returns
 returns c =
@@ -18,10 +18,10 @@ returns c =
       nodes = refl;
       channels = refl;
       sort = c.sorts.ensures;
-      base = rw c.requires.channels at c.bases.ensures;
+      base = c.bases.ensures;
       capacity = tabled (λ p. p.0.now ≡ a) _ (λ p q i y kept called. search rules) 0 c.from_fn-2.ensures.items refl;
       writer = tabled (λ p. p.0.now ≡ a) _ (λ p q i y kept called. search rules) 0 c.from_fn-3.ensures.items refl;
-      walks = rw node.first_is (rw c.requires.channels at c.walks-out.ensures);
+      walks = rw node.first_is c.walks-out.ensures;
       kind = node.kind;
       constant = node.constant;
       period = node.period;
@@ -31,5 +31,5 @@ returns c =
             size = length_tab 32 (λ n. inputs (node_among a.node n).kind);
             each = λ i h. rw (get_or_tab 32 (λ n. inputs (node_among a.node n).kind) i 0 (omega arith), get_or_tab 32 (λ n. (node_among a.node n).kind) i 0 (omega arith));
           });
-      input = rw node.input_is (rw c.requires.channels at c.inputs-input.ensures);
+      input = rw node.input_is c.inputs-input.ensures;
     }
