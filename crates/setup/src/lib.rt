@@ -42,6 +42,7 @@ fn sorts(channels: &[Channel; 64]) -> [Sort; 64]
 }
 
 // The base of each ring: the capacities of the channels before it together.
+#[tactic(auto, unfolding(rules::specs::Lists::total))]
 fn bases(channels: &[Channel]) -> [u32; 64]
     requires { (length channels.now ≤ 64) × (total (length channels.now) (λ c. (channel_among channels.now c).capacity) ≤ 1024) }
     ensures { BasesOf (length channels.now) channels.now result }
@@ -131,8 +132,10 @@ fn station(node: Node, first: u32, input: [u32; 4]) -> Station
 
 // ---- The set-up
 
-// The channels' and the nodes' records as the network has them, and what is made of them.
-fn plan(network: &Network) -> Plan
+// The channels' and the nodes' records as the network has them, and what is made of them. The hint keeps the stack
+// that a run takes within the header's figure, as the next one does.
+#[inline(never)]
+fn plan_of(network: &Network) -> Plan
     requires { Fits network.now }
     ensures { PlanFields network.now result }
 {
@@ -159,7 +162,8 @@ fn plan(network: &Network) -> Plan
 }
 
 // Every ring begins at its base with its initial tokens, every node is released at 0, nothing waits, and each pair's earliest instant is 0.
-fn state(network: &Network) -> State
+#[inline(never)]
+fn state_of(network: &Network) -> State
     requires { Fits network.now }
     ensures { StateFields network.now result }
 {
@@ -176,10 +180,12 @@ fn state(network: &Network) -> State
     }
 }
 
-// The plan and the state of a network before its first instant.
-pub fn prepare(network: &Network) -> (Plan, State)
+// The plan and the state of a network before its first instant. They are written where a run keeps them: answered as a pair they are copied, and
+// a run takes more stack than the header's figure.
+pub fn prepare(network: &Network, plan: &mut Plan, state: &mut State)
     requires { Lawful network.now }
-    ensures { (net : Rules) → Obeys net → network.now ≡ laid net → Starts net result.0 result.1 }
+    ensures { (net : Rules) → Obeys net → network.now ≡ laid net → Starts net plan.new state.new }
 {
-    (plan(network), state(network))
+    *plan = plan_of(network);
+    *state = state_of(network);
 }
