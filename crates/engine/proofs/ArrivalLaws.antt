@@ -1,15 +1,14 @@
 -- The first faulty arrival, by what a search from the front learns. Assumes nothing.
-use Prim.Native.Nat.{ℕ, ◌+◌, ◌≤◌, ◌<◌, zero-le}
+use Prim.Native.Nat.{ℕ, ◌≤◌, ◌<◌, zero-le}
 use native.Mathlib.Omega.{arith}
 use mathlib.Core.Bool.{true, false}
 use mathlib.Core.List.{List}
 use mathlib.Core.Path.{◌≡◌}
-use lib.ListN.{length, get_or}
+use lib.ListN.{length}
 use Rattle.std.specs.Prelude.{Option, Some, None}
 use Rattle.std.specs.Option.{MatchOption}
 use Rattle.rules.proofs.ListLaws.{lowest_only, lowest_none}
 use Rattle.layout.specs.declared.Plan.{Plan}
-use Rattle.layout.specs.Views.{ways_of}
 use Rattle.engine.specs.Arrivals.{faulty_by, FirstFaulty}
 
 -- what such a search learns: no arrival is faulty, or one is and none before it

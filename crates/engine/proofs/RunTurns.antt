@@ -8,7 +8,6 @@ use mathlib.Core.Path.{◌≡◌, refl, sym, ◌∙◌, ap}
 use lib.ListN.{length, take, drop, length-append}
 use lib.Seq.{take_at, drop-append-add, drop-drop}
 use Rattle.std.specs.Prelude.{Result, Ok, Err}
-use Rattle.rules.specs.declared.End.{End}
 use Rattle.rules.specs.declared.Ran.{Ran}
 use Rattle.rules.specs.Network.{Network}
 use Rattle.rules.specs.Instant.{State, stops, goes, instant, running, halted, onward, reached}

@@ -95,7 +95,6 @@ fn run_prepared(
 // Runs a network that was read: the horizon and the arrivals are checked first. The hint keeps the stack that a run takes within the header's
 // figure.
 #[inline(never)]
-#[tactic(auto, using(crate::proofs::EntryLaws::arrivals_faultless))]
 fn run_taken(
     network: &Network,
     horizon: usize,
@@ -109,7 +108,9 @@ fn run_taken(
     if late {
         return Err(Refusal::Horizon);
     }
-    let (plan, mut state) = setup::prepare(network);
+    let mut plan = Plan::default();
+    let mut state = State::default();
+    setup::prepare(network, &mut plan, &mut state);
     if let Some(faulty) = faulty_arrival(&plan, arrivals) {
         return Err(Refusal::Arrival(faulty));
     }

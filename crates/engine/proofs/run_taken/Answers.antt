@@ -11,6 +11,19 @@ returns-in-Some c =
     λ net obeys from.
     faulty_refused (c.prepare.ensures net obeys from).planned _ _ _ (omega arith) c.in-Some.ensures
 
+pub run_prepared-requires : goal.run_prepared-requires
+run_prepared-requires c =
+    let lawful = c.requires in
+    let starts = c.prepare.ensures lawful.net lawful.obeys lawful.from in (
+      omega arith,
+      record {
+        net = lawful.net;
+        obeys = lawful.obeys;
+        faultless = arrivals_faultless starts.planned _ c.in_default.ensures;
+        starts = starts;
+      },
+    )
+
 pub returns : goal.returns
 returns c =
     λ net obeys from.

@@ -3,11 +3,11 @@ use Rattle.setup.proofs.StartFits.{lawful_fits}
 use Rattle.setup.proofs.StartLaws.{starts}
 use Rattle.setup.proofs.prepare.Goals as goal
 
-pub plan_of-requires : goal.plan_of-requires
-plan_of-requires c = lawful_fits c.requires
+pub write_plan-requires : goal.write_plan-requires
+write_plan-requires c = lawful_fits c.requires
 
-pub state_of-requires : goal.state_of-requires
-state_of-requires c = lawful_fits c.requires
+pub write_state-requires : goal.write_state-requires
+write_state-requires c = lawful_fits c.requires
 
 pub returns : goal.returns
-returns c = starts c.plan_of.ensures c.state_of.ensures
+returns c = starts c.write_plan.ensures c.write_state.ensures
