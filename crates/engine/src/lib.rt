@@ -95,7 +95,6 @@ fn run_prepared(
 // Runs a network that was read: the horizon and the arrivals are checked first. The hint keeps the stack that a run takes within the header's
 // figure.
 #[inline(never)]
-#[tactic(auto, using(crate::proofs::EntryLaws::arrivals_faultless))]
 fn run_taken(
     network: &Network,
     horizon: usize,
@@ -109,11 +108,12 @@ fn run_taken(
     if late {
         return Err(Refusal::Horizon);
     }
-    let plan = setup::plan(network);
+    let mut plan = Plan::default();
+    let mut state = State::default();
+    setup::prepare(network, &mut plan, &mut state);
     if let Some(faulty) = faulty_arrival(&plan, arrivals) {
         return Err(Refusal::Arrival(faulty));
     }
-    let mut state = setup::state(network);
     Ok(run_prepared(&plan, &mut state, horizon as u32, arrivals, list))
 }
 

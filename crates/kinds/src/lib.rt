@@ -17,8 +17,9 @@ pub const NEVER: u32 = 4294967295;
 // ---- Kinds
 
 // What a node computes, in the order of the kinds' numbers.
-#[derive(Clone, Copy, Debug, PartialEq, Eq)]
+#[derive(Clone, Copy, Debug, Default, PartialEq, Eq)]
 pub enum Kind {
+    #[default]
     Constant,
     Copy,
     AddConstant,

@@ -9,14 +9,15 @@ use kinds::Kind;
 pub const NONE: u32 = 64;
 
 // What a channel does with its tokens.
-#[derive(Clone, Copy, Debug, PartialEq, Eq)]
+#[derive(Clone, Copy, Debug, Default, PartialEq, Eq)]
 pub enum Sort {
+    #[default]
     Queue,
     Register,
 }
 
 // What stays of a node: its record, how many inputs it has, the first channel of its walk, and the channels at its four ports.
-#[derive(Clone, Copy, Debug, PartialEq, Eq)]
+#[derive(Clone, Copy, Debug, Default, PartialEq, Eq)]
 pub struct Station {
     pub kind: Kind,
     pub constant: i32,
@@ -28,7 +29,7 @@ pub struct Station {
 }
 
 // What stays over a run.
-#[derive(Clone, Copy)]
+#[derive(Clone, Copy, Default)]
 pub struct Plan {
     // How many nodes and channels there are, and the first channel to the outside.
     pub nodes: u32,
@@ -46,14 +47,14 @@ pub struct Plan {
 }
 
 // Of a channel's ring, the place of its oldest token, counted from the ring's first, and how many it holds.
-#[derive(Clone, Copy, Debug, PartialEq, Eq)]
+#[derive(Clone, Copy, Debug, Default, PartialEq, Eq)]
 pub struct Ring {
     pub head: u32,
     pub len: u32,
 }
 
 // What changes over a run.
-#[derive(Clone, Copy)]
+#[derive(Clone, Copy, Default)]
 pub struct State {
     pub ring: [Ring; 64],
     // The tokens of all rings.

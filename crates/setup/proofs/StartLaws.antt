@@ -70,10 +70,6 @@ module _ {net : Network} (obeys : Obeys net) {p : Plan} (entries : Entries net p
         };
       }
 
--- a plan that is made of a network's arrays stands for the network
-pub plan_planned : {a : table.Network} {p : Plan} → PlanFields a p → (net : Network) → Obeys net → a ≡ laid net → Planned net p
-plan_planned {a} {p} plan net obeys from = plan_stands obeys (laid_entries net obeys (rw from at plan))
-
 -- a plan and a state that are made of a network's arrays stand for the network
 pub starts : {a : table.Network} {p : Plan} {s : State} → PlanFields a p → StateFields a s → (net : Network) → Obeys net → a ≡ laid net → Starts net p s
 unfolding laid

@@ -42,6 +42,7 @@ fn sorts(channels: &[Channel; 64]) -> [Sort; 64]
 }
 
 // The base of each ring: the capacities of the channels before it together.
+#[tactic(auto, unfolding(rules::specs::Lists::total))]
 fn bases(channels: &[Channel]) -> [u32; 64]
     requires { (length channels.now ≤ 64) × (total (length channels.now) (λ c. (channel_among channels.now c).capacity) ≤ 1024) }
     ensures { BasesOf (length channels.now) channels.now result }
@@ -131,13 +132,12 @@ fn station(node: Node, first: u32, input: [u32; 4]) -> Station
 
 // ---- The set-up
 
-// The hints on inlining keep the stack that a run takes within the header's figure: each of the two is made where it stays.
-
-// The channels' and the nodes' records as the network has them, and what is made of them.
+// The channels' and the nodes' records as the network has them, and what is made of them. The hint keeps the stack that a run takes within the
+// header's figure, as the next one does.
 #[inline(never)]
-pub fn plan(network: &Network) -> Plan
+fn write_plan(network: &Network, plan: &mut Plan)
     requires { Fits network.now }
-    ensures { PlanFields network.now result }
+    ensures { PlanFields network.now plan.new }
 {
     let channels = &network.channel[..network.channels];
     let Ways {
@@ -147,7 +147,7 @@ pub fn plan(network: &Network) -> Plan
         outs,
     } = walks(channels);
     let input = inputs(channels);
-    Plan {
+    *plan = Plan {
         nodes: network.nodes as u32,
         channels: network.channels as u32,
         out,
@@ -158,16 +158,16 @@ pub fn plan(network: &Network) -> Plan
         writer: from_fn(|c| network.channel[c].writer),
         follow,
         outs,
-    }
+    };
 }
 
 // Every ring begins at its base with its initial tokens, every node is released at 0, nothing waits, and each pair's earliest instant is 0.
 #[inline(never)]
-pub fn state(network: &Network) -> State
+fn write_state(network: &Network, state: &mut State)
     requires { Fits network.now }
-    ensures { StateFields network.now result }
+    ensures { StateFields network.now state.new }
 {
-    State {
+    *state = State {
         ring: from_fn(|c| Ring {
             head: 0,
             len: network.channel[c].initial,
@@ -177,5 +177,15 @@ pub fn state(network: &Network) -> State
         due: [kinds::NEVER; 32],
         value: [0; 32],
         soon: [0; 16],
-    }
+    };
+}
+
+// The plan and the state of a network before its first instant. They are written where a run keeps them: answered by value they are copied, and a
+// run takes more stack than the header's figure (docs/DESIGN-PASS.md).
+pub fn prepare(network: &Network, plan: &mut Plan, state: &mut State)
+    requires { Lawful network.now }
+    ensures { (net : Rules) → Obeys net → network.now ≡ laid net → Starts net plan.new state.new }
+{
+    write_plan(network, plan);
+    write_state(network, state);
 }

@@ -4,7 +4,7 @@ use Rattle.rules.specs.Lists.{tab, tab_from}
 use Rattle.rules.specs.Network.{channel_among}
 use Rattle.layout.specs.declared.Ring.{Ring}
 use Rattle.setup.proofs.FromFn.{tabled_seen}
-use Rattle.setup.proofs.state.Goals as goal
+use Rattle.setup.proofs.write_state.Goals as goal
 
 pub returns : goal.returns
 unfolding tab tab_from

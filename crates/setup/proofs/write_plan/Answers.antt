@@ -6,7 +6,7 @@ use Rattle.rules.proofs.ListLaws.{get_or_tab, length_tab}
 use Rattle.table.specs.declared.Network.{Network}
 use Rattle.setup.proofs.FromFn.{tabled}
 use Rattle.setup.proofs.Stations.{stations_of}
-use Rattle.setup.proofs.plan.Goals as goal
+use Rattle.setup.proofs.write_plan.Goals as goal
 
 pub returns : goal.returns
 returns c =
