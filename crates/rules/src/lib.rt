@@ -9,7 +9,7 @@ use std::error::Error;
 use std::fmt;
 
 // A node, as its 69 bits have it.
-#[derive(Clone, Copy, Debug, PartialEq, Eq)]
+#[derive(Clone, Copy, Debug, Default, PartialEq, Eq)]
 pub struct Node {
     pub kind: u32,
     pub period: u32,
@@ -18,7 +18,7 @@ pub struct Node {
 }
 
 // A channel, as its 29 bits have it. Its tokens stand beside it.
-#[derive(Clone, Copy, Debug, PartialEq, Eq)]
+#[derive(Clone, Copy, Debug, Default, PartialEq, Eq)]
 pub struct Channel {
     pub sort: u32,
     pub writer: u32,

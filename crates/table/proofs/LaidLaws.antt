@@ -1,34 +1,25 @@
--- Laws of a list laid out as an array, a default behind its last entry: one entry more is one store at the list's end. Assumes nothing.
-use Prim.Native.Nat.{ℕ, zero, suc, ◌<◌}
-use mathlib.Core.List.{List, [], ◌∷◌, ◌++◌}
-use mathlib.Core.Path.{◌≡◌, refl, sym, ap, ◌∙◌}
-use lib.Dec.{eqb}
-use lib.ListN.{length, get_or, set, length-set}
-use lib.Seq.{get_or_at, get_or-set_same, get_or-set_other}
-use borrow.Author.Tests.{eqb-true, eqb-false}
+-- A list laid out as an array, a default behind its last entry: the list, then the rest of an array of defaults. Assumes nothing.
+use Prim.Native.Nat.{ℕ, ◌+◌, ◌-◌, ◌≤◌, ◌<◌}
+use native.Mathlib.Omega.{arith}
+use mathlib.Core.List.{List, ◌++◌}
+use mathlib.Core.Path.{◌≡◌, refl, sym, ◌∙◌}
+use lib.Dec.{ltb}
+use lib.ListN.{length, get_or, drop, replicate, get_or-replicate}
+use lib.Seq.{get_or-drop}
+use borrow.Author.Tests.{ltb-true, ltb-false}
+use Rattle.std.proofs.lemmas.List.{same_lists, get_or_append_left, get_or-append_right, get_or_default, get_or_past, length-append, length-drop, length-replicate}
+use Rattle.rules.proofs.ListLaws.{by_test, length_tab, get_or_tab}
 use Rattle.rules.specs.Lists.{tab}
-use Rattle.rules.proofs.ListLaws.{by_test, length_tab, get_or_tab, tab_get_or}
 
-module _ {A : Type 0} where
-  -- one entry more at the end changes no other place
-  get_or_more_other : (l : List A) (x d : A) (i : ℕ) → (i ≡ length l → ⊥) → get_or (l ++ (x ∷ [])) i d ≡ get_or l i d
-  get_or_more_other [] x d zero other = absurd (other refl)
-  get_or_more_other [] x d (suc i) other = refl
-  get_or_more_other (y ∷ l) x d zero other = refl
-  get_or_more_other (y ∷ l) x d (suc i) other = get_or_more_other l x d i (λ e. other (ap suc e))
-
-  -- storing an entry at the list's end lays out the longer list
-  pub laid_next : (size : ℕ) (f : A → ℕ) (l : List A) (x d : A) → length l < size → set (tab size (λ i. f (get_or l i d))) (length l) (f x) ≡ tab size (λ i. f (get_or (l ++ (x ∷ [])) i d))
-  laid_next size f l x d room =
-      let old = tab size (λ i. f (get_or l i d)) in
-      let long : length old ≡ size = length_tab size _ in
-      sym
-      (tab_get_or (set old (length l) (f x)) size _ 0 (length-set old (length l) (f x) ∙ long)
-      (λ i h.
-      by_test (eqb i (length l))
-      (λ e.
-      let last : i ≡ length l = eqb-true i (length l) e in
-      rw (last, get_or_at l x [] d (length l) refl, get_or-set_same old (length l) (f x) 0 (rw long room)))
-      (λ e.
-      let other : i ≡ length l → ⊥ = eqb-false i (length l) e in
-      ap f (get_or_more_other l x d i other) ∙ sym (get_or-set_other old (length l) i (f x) 0 other ∙ get_or_tab size _ i 0 h))))
+pub laid_out : {A : Type 0} (d : A) (l : List A) (n : ℕ) → length l ≤ n → tab n (λ i. get_or l i d) ≡ l ++ drop (length l) (replicate n d)
+laid_out d l n within =
+    same_lists _ _ (simp (length_tab, length-append, length-drop, length-replicate) (omega arith))
+    (λ i e h.
+    let place : i < n = rw length_tab at h in
+    get_or_tab n _ i e place
+    ∙ by_test (ltb i (length l)) (λ t. get_or_default l i d e (ltb-true i _ t) ∙ sym (get_or_append_left l _ e i (ltb-true i _ t)))
+    (λ t.
+    let past : length l ≤ i = ltb-false i _ t in
+    let rest : length l + (i - length l) ≡ i = omega arith in
+    get_or_past l i d past
+    ∙ sym (get_or-append_right l _ (length l) i e refl past ∙ get_or-drop (length l) (replicate n d) (i - length l) e ∙ rw rest (get_or-replicate n i d e place))))

@@ -1,9 +1,7 @@
 pub mod LaidLaws
-pub mod NodeTurn
-pub mod Tokens
+pub mod Refused
 pub mod Piece
 pub mod Places
-pub mod Extents
 pub mod ChannelTurn
 pub mod Ports
 pub mod Whole

@@ -1,7 +1,8 @@
 -- What a channel's piece says of the channel's tokens: that they have room. Assumes nothing.
-use Prim.Native.Nat.{ℕ, ◌+◌, ◌≤◌}
+use Prim.Native.Nat.{ℕ, ◌+◌, ◌-◌, ◌≤◌}
 use mathlib.Core.List.{List}
 use mathlib.Core.Path.{◌≡◌}
+use Rattle.std.proofs.Math.Nat.{add-sub_cancel_left}
 use Rattle.rules.specs.declared.Channel.{Channel}
 use Rattle.rules.specs.Table.{read, channel_piece}
 use Rattle.rules.proofs.Checks.{channel_fields_law}
@@ -17,3 +18,7 @@ module _ (s : List ℕ) (nodes c at together : ℕ) where
   channel_room {ch} e =
       let got = (channel_read s nodes c at together).given ch e in
       record { within = (channel_fields_law nodes ch got.lawful).within; enough = got.enough }
+
+-- a part of so many places has so many
+pub part_long : (from count : ℕ) → from + count - from ≡ count
+part_long from count = add-sub_cancel_left from count

@@ -2,203 +2,130 @@
 // each read whole and then checked.
 #![tactic(auto)]
 
-ghost use Rattle.std.specs.Prelude.{◌≡◌, ℕ, ◌+◌, ◌*◌, ◌≤◌, ◌<◌, length, get_or, MatchOption};
-ghost use Rattle.rules.specs.Lists.{count, every, lowest};
-ghost use Rattle.rules.specs.Table.{read, header_at, ends_at, network};
+ghost use Rattle.std.specs.Prelude.{◌≡◌, ◌+◌, ◌*◌, ◌≤◌, ◌<◌, List, [], ℤ, pos, length, replicate, count_by, MatchOption};
+ghost use Rattle.rules.specs.Kinds.{inputs};
+ghost use Rattle.rules.specs.Table.{nodes_up_to, tokens_up_to, ends_at, faulty_node, network};
 ghost use Rattle.rules.specs.Refusals.{check, checked_says};
-ghost use Rattle.pieces.specs.Says.{header_of};
+ghost use Rattle.pieces.specs.Says.{says_by};
 ghost use Rattle.table.specs.Laid.{TableOf};
-ghost use Rattle.table.specs.Reads.{NodesDone, NodesRead, TokensRead, ChannelWithTokens, ChannelsDone, ChannelsRead, served_by, served_right, faulty_in};
+ghost use Rattle.table.specs.Reads.{ChannelWithTokens, ChannelsRead, end_read, pieces_read, PiecesRead, serves, served_right, all_right, net_of};
 
-use rules::{Channel, Counts, Refusal};
+use fields::Reader;
+use kinds::Kind;
+use rules::{Channel, Counts, Node, Refusal};
 
-// The nodes' fields, zero behind the last node. Constants are the 32 bits that they were read from.
-#[derive(Clone, Copy)]
-pub struct NodeArrays {
-    pub kind: [u32; 32],
-    pub period: [u32; 32],
-    pub deadline: [u32; 32],
-    pub constant: [u32; 32],
-}
-
-// The channels' fields, zero behind the last channel. Each channel has as many places among the tokens as its capacity, one channel after
-// another: its initial tokens as the 32 bits that they were read from, then zeros; and zeros behind the last channel.
-#[derive(Clone, Copy)]
-pub struct ChannelArrays {
-    pub sort: [u32; 64],
-    pub writer: [u32; 64],
-    pub reader: [u32; 64],
-    pub port: [u32; 64],
-    pub capacity: [u32; 64],
-    pub initial: [u32; 64],
-    pub tokens: [u32; 1024],
-}
-
-// A network, a field an array.
+// A network: its nodes and channels, zero behind the last. Each channel has as many places among the tokens as its capacity, one channel after
+// another: its initial tokens, then zeros; and zeros behind the last channel.
 #[derive(Clone, Copy)]
 pub struct Network {
     pub nodes: usize,
     pub channels: usize,
-    pub node: NodeArrays,
-    pub channel: ChannelArrays,
-}
-
-// The channels that were read, and the bit behind them.
-#[derive(Clone, Copy)]
-struct Channels {
-    end: usize,
-    arrays: ChannelArrays,
+    pub node: [Node; 32],
+    pub channel: [Channel; 64],
+    pub tokens: [i32; 1024],
 }
 
 // ---- Nodes
 
-// The first `count` nodes.
-#[tactic(auto, using(crate::proofs::NodeTurn::node_turn))]
-fn read_nodes(s: &[u8], count: usize) -> Result<NodeArrays, Refusal>
-    requires { count ≤ 32 }
-    ensures { NodesRead s.now count result }
+// The nodes, as many as there are places for them.
+#[tactic(auto, unfolding(rules::specs::Table::nodes_up_to), using(std::proofs::lemmas::List::take_more_set, crate::proofs::Refused::node_refused))]
+fn read_nodes(s: &[u8], nodes: &mut [Node]) -> Result<(), Refusal>
+    requires { length nodes.old ≤ 32 }
+    ensures { says_by (λ done. nodes.new) result ≡ nodes_up_to s.now (length nodes.old) }
 {
-    let mut kind = [0u32; 32];
-    let mut period = [0u32; 32];
-    let mut deadline = [0u32; 32];
-    let mut constant = [0u32; 32];
-    for n in 0..count {
-        let node = pieces::node_piece(s, n)?;
-        kind[n] = node.kind;
-        period[n] = node.period;
-        deadline[n] = node.deadline;
-        constant[n] = fields::pattern(node.constant);
-    }
-    Ok(NodeArrays {
-        kind,
-        period,
-        deadline,
-        constant,
-    })
-}
-
-// ---- Channels
-
-// The first `count` tokens that stand at bit `at`, stored from place `base` on.
-#[tactic(auto, using(crate::proofs::Tokens::no_tokens, crate::proofs::Tokens::token_next))]
-fn read_tokens(
-    s: &[u8],
-    at: usize,
-    count: usize,
-    tokens: &mut [u32; 1024],
-    base: usize,
-) -> Result<(), Refusal>
-    requires { (at < 65536) × (base + count ≤ 1024) × (length tokens.old ≡ 1024) }
-    ensures { TokensRead s.now at count tokens.old base result tokens.new }
-{
-    for i in 0..count {
-        let place = at + 32 * i;
-        if !fields::there(s, place, 32) {
-            return Err(Refusal::BitsEnd(place));
-        }
-        tokens[base + i] = fields::field(s, place, 32);
+    for (n, node) in nodes.iter_mut().enumerate() {
+        *node = pieces::node_piece(s, n)?;
     }
     Ok(())
 }
 
-// Channel `c`, which stands at bit `at` behind channels whose capacities together are `together`, with its tokens, stored from place
+// ---- Channels
+
+// The tokens that stand where the reader does, as many as there are places for them.
+#[tactic(auto, unfolding(rules::specs::Table::tokens_up_to, rules::specs::Table::token_piece), using(std::proofs::lemmas::List::take_more_set, crate::proofs::Refused::token_missing))]
+fn read_tokens(bits: Reader<'_>, tokens: &mut [i32]) -> Result<(), Refusal>
+    requires { (bits.at < 65536) × (length tokens.old ≤ 1024) }
+    ensures { says_by (λ done. tokens.new) result ≡ tokens_up_to bits.entry.bytes.now bits.entry.at (length tokens.old) }
+{
+    for (i, token) in tokens.iter_mut().enumerate() {
+        let place = bits.at + 32 * i;
+        let word = bits.moved(place).take(32).ok_or(Refusal::BitsEnd(place))?;
+        *token = fields::signed(word);
+    }
+    Ok(())
+}
+
+// Channel `c`, where the reader stands, behind channels whose capacities together are `together`, with its tokens, stored from place
 // `together` on.
-#[tactic(auto, using(crate::proofs::Piece::channel_room))]
+#[tactic(auto, using(crate::proofs::Piece::channel_room, crate::proofs::Piece::part_long))]
 fn read_channel(
-    s: &[u8],
+    bits: Reader<'_>,
     nodes: usize,
     c: usize,
-    at: usize,
     together: usize,
-    tokens: &mut [u32; 1024],
+    tokens: &mut [i32; 1024],
 ) -> Result<Channel, Refusal>
-    requires { (at < 65000) × (together ≤ 1024) × (length tokens.old ≡ 1024) }
-    ensures { ChannelWithTokens s.now nodes c at together tokens.old result tokens.new }
+    requires { (bits.at < 65000) × (together ≤ 1024) }
+    ensures { ChannelWithTokens bits.entry.bytes.now nodes c bits.entry.at together tokens.old result tokens.new }
 {
-    let ch = pieces::channel_piece(s, nodes, c, at, together)?;
-    read_tokens(s, at + 29, ch.initial as usize, tokens, together)?;
+    let ch = pieces::channel_piece(bits, nodes, c, together)?;
+    let behind = together + ch.initial as usize;
+    read_tokens(bits.moved(bits.at + 29), &mut tokens[together..behind])?;
     Ok(ch)
 }
 
-// The first `count` channels, behind `nodes` nodes.
-fn read_channels(s: &[u8], nodes: usize, count: usize) -> Result<Channels, Refusal>
-    requires { (nodes ≤ 32) × (count ≤ 64) }
-    ensures { ChannelsRead s.now nodes count result }
+// The channels, behind `nodes` nodes, as many as there are places for them, with their tokens, which stood at zero; answers the bit behind
+// them.
+#[tactic(auto, using(crate::proofs::ChannelTurn::no_channels, crate::proofs::ChannelTurn::channel_next, crate::proofs::ChannelTurn::refused_next, crate::proofs::ChannelTurn::all_done, crate::proofs::Piece::channel_room))]
+fn read_channels(
+    s: &[u8],
+    nodes: usize,
+    channels: &mut [Channel],
+    tokens: &mut [i32; 1024],
+) -> Result<usize, Refusal>
+    requires { (nodes ≤ 32) × (length channels.old ≤ 64) × (tokens.old ≡ replicate 1024 (pos 0)) }
+    ensures { ChannelsRead s.now nodes (length channels.old) result channels.new tokens.new }
 {
-    let mut sort = [0u32; 64];
-    let mut writer = [0u32; 64];
-    let mut reader = [0u32; 64];
-    let mut port = [0u32; 64];
-    let mut capacity = [0u32; 64];
-    let mut initial_count = [0u32; 64];
-    let mut tokens = [0u32; 1024];
     let mut at = 24 + 69 * nodes;
     let mut together = 0;
-    for c in 0..count {
-        let ch = read_channel(s, nodes, c, at, together, &mut tokens)?;
-        sort[c] = ch.sort;
-        writer[c] = ch.writer;
-        reader[c] = ch.reader;
-        port[c] = ch.port;
-        capacity[c] = ch.capacity;
-        initial_count[c] = ch.initial;
+    for (c, channel) in channels.iter_mut().enumerate() {
+        let bits = Reader { bytes: s, at };
+        let ch = read_channel(bits, nodes, c, together, tokens)?;
         at += 29 + 32 * ch.initial as usize;
         together += ch.capacity as usize;
+        *channel = ch;
     }
-    Ok(Channels {
-        end: at,
-        arrays: ChannelArrays {
-            sort,
-            writer,
-            reader,
-            port,
-            capacity,
-            initial: initial_count,
-            tokens,
-        },
-    })
+    Ok(at)
 }
 
 // ---- The end, and the ports
 
 // Zero bits to the end of the byte, then nothing.
 #[tactic(auto, unfolding(rules::specs::Table::ends_at))]
-fn ends(s: &[u8], at: usize) -> bool
-    requires { at < 65536 }
-    ensures { result ≡ ends_at s.now at }
+fn ends(bits: Reader<'_>) -> bool
+    requires { bits.at < 65536 }
+    ensures { result ≡ ends_at bits.entry.bytes.now bits.entry.at }
 {
-    let bytes = (at + 7) / 8;
-    s.len() == bytes && fields::field(s, at, 8 * bytes - at) == 0
+    let bytes = (bits.at + 7) / 8;
+    bits.bytes.len() == bytes && bits.field(0, 8 * bytes - bits.at) == 0
 }
 
-// How many of the first `channels` channels serve port `p` of node `n`.
-#[tactic(auto, unfolding(rules::specs::Lists::count, rules::specs::Lists::total))]
-fn served(reader: &[u32; 64], port: &[u32; 64], channels: usize, n: usize, p: u32) -> usize
-    requires { (channels ≤ 64) × (n < 32) }
-    ensures { result ≡ count channels (served_by reader.now port.now n p) }
+// How many channels serve port `p` of node `n`.
+fn served(channels: &[Channel], n: usize, p: u32) -> usize
+    ensures { result ≡ count_by (serves n p) channels.now }
 {
-    let mut found = 0;
-    for c in 0..channels {
-        if reader[c] as usize == n && port[c] == p {
-            found += 1;
-        }
-    }
-    found
+    channels
+        .iter()
+        .filter(|ch| ch.reader as usize == n && ch.port == p)
+        .count()
 }
 
 // Whether port `p` of node `n`, which has so many inputs, is served as it should be.
-fn port_ok(
-    reader: &[u32; 64],
-    port: &[u32; 64],
-    channels: usize,
-    n: usize,
-    p: u32,
-    inputs: u32,
-) -> bool
-    requires { (channels ≤ 64) × (n < 32) }
-    ensures { result ≡ served_right reader.now port.now channels n inputs p }
+#[tactic(auto, using(crate::proofs::Ports::counted), unfolding(rules::specs::Lists::count, rules::specs::Lists::total))]
+fn port_ok(channels: &[Channel], n: usize, p: u32, inputs: u32) -> bool
+    ensures { result ≡ served_right channels.now n inputs p }
 {
-    let found = served(reader, port, channels, n, p);
+    let found = served(channels, n, p);
     let input = p < inputs;
     if input {
         return found == 1;
@@ -207,90 +134,98 @@ fn port_ok(
 }
 
 // Whether every port of node `n` is served as it should be.
-fn ports_ok(reader: &[u32; 64], port: &[u32; 64], channels: usize, n: usize, inputs: u32) -> bool
-    requires { (channels ≤ 64) × (n < 32) }
-    ensures { result ≡ every 4 (served_right reader.now port.now channels n inputs) }
+#[tactic(auto, unfolding(crate::specs::Reads::all_right))]
+fn ports_ok(channels: &[Channel], n: usize, inputs: u32) -> bool
+    ensures { result ≡ all_right channels.now n inputs }
 {
-    (0..4).all(|p| port_ok(reader, port, channels, n, p, inputs))
+    (0..4).all(|p| port_ok(channels, n, p, inputs))
+}
+
+// How many inputs a node's kind has: none, where its number is of no kind.
+#[tactic(auto, unfolding(rules::specs::Kinds::inputs))]
+fn inputs_of(node: Node) -> u32
+    ensures { result ≡ inputs node.kind }
+{
+    Kind::try_from(node.kind).map_or(0, Kind::inputs)
 }
 
 // The lowest node with a port that is not served as it should be.
-#[tactic(auto, using(rules::proofs::ListLaws::lowest_none))]
-fn faulty_node(
-    kind: &[u32; 32],
-    reader: &[u32; 64],
-    port: &[u32; 64],
-    nodes: usize,
-    channels: usize,
-) -> Option<usize>
-    requires { (nodes ≤ 32) × (channels ≤ 64) × ((n : ℕ) → n < nodes → get_or kind.now n 0 < 12) }
-    ensures { let low = lowest nodes (faulty_in kind.now reader.now port.now channels) in MatchOption result (low ≡ nodes) (λ n. (n < nodes) × (low ≡ n)) }
+#[tactic(auto, using(rules::proofs::ListLaws::lowest_none, crate::proofs::Ports::ports_by_all, crate::proofs::Ports::first_faulty), unfolding(rules::specs::Table::faulty_node))]
+fn faulty_node(nodes: &[Node], channels: &[Channel]) -> Option<usize>
+    ensures { let low = faulty_node (net_of nodes.now channels.now []) in MatchOption result (low ≡ length nodes.now) (λ n. (n < length nodes.now) × (low ≡ n)) }
 {
-    for n in 0..nodes {
-        if !ports_ok(reader, port, channels, n, kinds::inputs_of(kind[n])) {
+    for (n, node) in nodes.iter().enumerate() {
+        if !ports_ok(channels, n, inputs_of(*node)) {
             return Some(n);
         }
     }
     None
 }
 
+// The end of the table, where the reader stands, and the ports.
+#[tactic(auto, unfolding(rules::specs::Table::faulty_node, rules::specs::Network::ports_ok))]
+fn read_end(bits: Reader<'_>, nodes: &[Node], channels: &[Channel]) -> Result<(), Refusal>
+    requires { bits.at < 65536 }
+    ensures { (tokens : List (List ℤ)) → says_by (λ done. net_of nodes.now channels.now tokens) result ≡ end_read bits.entry.bytes.now bits.entry.at (net_of nodes.now channels.now tokens) }
+{
+    if !ends(bits) {
+        return Err(Refusal::Leftover);
+    }
+    match faulty_node(nodes, channels) {
+        Some(n) => Err(Refusal::Ports(n)),
+        None => Ok(()),
+    }
+}
+
 // ---- The whole table
+
+// All that follows the header: as many nodes and channels as there are places for them, and the channels' tokens, whose places stood at
+// zero.
+fn read_pieces(
+    s: &[u8],
+    nodes: &mut [Node],
+    channels: &mut [Channel],
+    tokens: &mut [i32; 1024],
+) -> Result<(), Refusal>
+    requires { (length nodes.old ≤ 32) × (length channels.old ≤ 64) × (tokens.old ≡ replicate 1024 (pos 0)) }
+    ensures { PiecesRead (pieces_read s.now (length nodes.old) (length channels.old)) nodes.new channels.new tokens.new result }
+{
+    read_nodes(s, nodes)?;
+    let at = read_channels(s, nodes.len(), channels, tokens)?;
+    read_end(Reader { bytes: s, at }, nodes, channels)
+}
 
 // The hints on inlining from here on keep the stack that a call takes within the header's figures, which `tools/c-example` measures.
 
-// The end of the table and the ports, once all pieces are read.
-#[tactic(auto, unfolding(rules::specs::Table::network))]
+// The network that follows a header with these counts, zero behind its pieces.
 #[inline(always)]
-fn read_end(
-    s: &[u8],
-    counts: Counts,
-    node: NodeArrays,
-    channels: Channels,
-) -> Result<Network, Refusal>
-    requires { (header_at s.now ≡ read (header_of counts)) × NodesDone s.now counts.nodes node × ChannelsDone s.now counts.nodes counts.channels channels }
-    ensures { TableOf (network s.now) result }
+fn read_rest(s: &[u8], counts: Counts) -> Result<Network, Refusal>
+    requires { (counts.nodes ≤ 32) × (counts.channels ≤ 64) }
+    ensures { TableOf (pieces_read s.now counts.nodes counts.channels) result }
 {
-    let channel = channels.arrays;
-    if !ends(s, channels.end) {
-        return Err(Refusal::Leftover);
-    }
-    match faulty_node(
-        &node.kind,
-        &channel.reader,
-        &channel.port,
-        counts.nodes,
-        counts.channels,
-    ) {
-        Some(n) => Err(Refusal::Ports(n)),
-        None => Ok(Network {
-            nodes: counts.nodes,
-            channels: counts.channels,
-            node,
-            channel,
-        }),
-    }
-}
-
-// The channels, and what follows them, once the nodes are read.
-#[tactic(auto, using(crate::proofs::Whole::nodes_within, crate::proofs::Whole::channels_within), unfolding(rules::specs::Table::network))]
-#[inline(always)]
-fn read_rest(s: &[u8], counts: Counts, node: NodeArrays) -> Result<Network, Refusal>
-    requires { (header_at s.now ≡ read (header_of counts)) × NodesDone s.now counts.nodes node }
-    ensures { TableOf (network s.now) result }
-{
-    let channels = read_channels(s, counts.nodes, counts.channels)?;
-    read_end(s, counts, node, channels)
+    let mut node = [Node::default(); 32];
+    let mut channel = [Channel::default(); 64];
+    let mut tokens = [0; 1024];
+    let nodes = &mut node[..counts.nodes];
+    let channels = &mut channel[..counts.channels];
+    read_pieces(s, nodes, channels, &mut tokens)?;
+    Ok(Network {
+        nodes: counts.nodes,
+        channels: counts.channels,
+        node,
+        channel,
+        tokens,
+    })
 }
 
 // The network that a table's bytes say, or the first refusal.
-#[tactic(auto, using(crate::proofs::Whole::nodes_within), unfolding(rules::specs::Table::network))]
+#[tactic(auto, using(crate::proofs::Whole::nodes_within, crate::proofs::Whole::channels_within), unfolding(rules::specs::Table::network))]
 #[inline(always)]
 pub fn unpack(s: &[u8]) -> Result<Network, Refusal>
     ensures { TableOf (network s.now) result }
 {
     let counts = pieces::read_header(s)?;
-    let node = read_nodes(s, counts.nodes)?;
-    read_rest(s, counts, node)
+    read_rest(s, counts)
 }
 
 // The first entry point: the check of a table.

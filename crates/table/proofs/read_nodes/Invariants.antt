@@ -1,7 +1,7 @@
--- After n turns the first n nodes are read, and the arrays are those of these nodes, zero behind the last one.
-use Rattle.table.specs.Reads.{NodesDone}
+-- After n turns the first n nodes are read, and they are the first n of the places.
+use Rattle.std.proofs.Common.{◌≡◌, take}
+use Rattle.rules.specs.Table.{read, nodes_up_to}
 use Rattle.table.proofs.read_nodes.Given as goal
 
 abbrev pub invariant-loop-n : goal.invariant-loop-n
-invariant-loop-n l =
-    NodesDone l.s l.n (record { kind = l.kind; period = l.period; deadline = l.deadline; constant = l.constant })
+invariant-loop-n l = nodes_up_to l.s l.n ≡ read (take l.n l.nodes)

@@ -1,6 +1,7 @@
--- After i turns the first i tokens are read, and their bits are stored from the base on.
-use Rattle.table.specs.Reads.{TokensDone}
+-- After i turns the first i tokens are read, and they are the first i of the places.
+use Rattle.std.proofs.Common.{◌≡◌, take}
+use Rattle.rules.specs.Table.{read, tokens_up_to}
 use Rattle.table.proofs.read_tokens.Given as goal
 
 abbrev pub invariant-loop-i : goal.invariant-loop-i
-invariant-loop-i l = TokensDone l.s l.at l.i l.fn.tokens l.base l.tokens
+invariant-loop-i l = tokens_up_to l.bits.bytes.now l.bits.at l.i ≡ read (take l.i l.tokens)
