@@ -1,6 +1,5 @@
 pub mod LaidLaws
-pub mod Nodes
-pub mod Tokens
+pub mod Refused
 pub mod Piece
 pub mod Places
 pub mod ChannelTurn

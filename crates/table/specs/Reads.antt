@@ -1,14 +1,12 @@
 -- What the functions that read pieces promise each other. Assumes nothing.
-use Rattle.std.specs.Prelude.{ℕ, ◌+◌, ◌<◌, Bool, cond, ◌&&◌, List, [], ◌++◌, ◌≡◌, eqb, ltb, ℤ, length, take, drop, Result, Ok, Err}
+use Rattle.std.specs.Prelude.{ℕ, ◌+◌, ◌<◌, Bool, cond, ◌&&◌, List, ◌++◌, ◌≡◌, eqb, ltb, ℤ, length, take, drop, Result, Ok, Err}
 use Rattle.std.specs.List.{list_all, range_with_len}
 use Rattle.rules.specs.declared.Node.{Node}
 use Rattle.rules.specs.declared.Channel.{Channel}
 use Rattle.rules.specs.declared.Refusal.{Refusal}
 use Rattle.rules.specs.Lists.{count}
-use Rattle.rules.specs.Network as rules
-use Rattle.rules.specs.Network.{channel_among}
-use Rattle.rules.specs.Table as read
-use Rattle.rules.specs.Table.{Reading, read, ◌then◌, unless, nodes_up_to, tokens_up_to, channel_piece, channels_up_to, ends_at, faulty_node}
+use Rattle.rules.specs.Network.{Network, channel_among}
+use Rattle.rules.specs.Table.{Reading, read, Channels, ◌then◌, unless, nodes_up_to, tokens_up_to, channel_piece, channels_up_to, ends_at, faulty_node}
 use Rattle.pieces.specs.Says.{refused_by}
 use Rattle.table.specs.Laid.{all_places, padded}
 
@@ -26,7 +24,7 @@ ChannelWithTokens s nodes c at together before (Err why) after =
 
 -- the first c channels are read, up to a bit, and their tokens have their places, with zeros behind the last one
 pub record ChannelsDone (s : List ℕ) (nodes c end : ℕ) (channels : List Channel) (placed : List ℤ) : Type 0 where
-  pub all : read.Channels
+  pub all : Channels
   pub reads : channels_up_to s nodes c ≡ read all
   pub ends : end ≡ all.end
   pub near : end < 65536
@@ -50,30 +48,29 @@ served_right channels n inputs p =
 unfoldable pub all_right : List Channel → ℕ → ℕ → Bool
 all_right channels n inputs = list_all (served_right channels n inputs) (range_with_len 0 4)
 
--- a network of these nodes and channels, for the rule of the ports, which reads no tokens
-abbrev pub net_of : List Node → List Channel → rules.Network
-net_of nodes channels = record { nodes = nodes; channels = channels; tokens = [] }
+abbrev pub net_of : List Node → List Channel → List (List ℤ) → Network
+net_of nodes channels tokens = record { nodes = nodes; channels = channels; tokens = tokens }
 
 -- a network, if its ports are right, and if the bits from a bit on end its table too
-abbrev pub ported : rules.Network → Reading rules.Network
+abbrev pub ported : Network → Reading Network
 ported net = unless (eqb (faulty_node net) (length net.nodes)) 8 (faulty_node net) net
 
-abbrev pub end_read : List ℕ → ℕ → rules.Network → Reading rules.Network
+abbrev pub end_read : List ℕ → ℕ → Network → Reading Network
 end_read s at net = unless (ends_at s at) 7 0 net then ported
 
 -- the network of so many nodes and channels behind a header
-abbrev pub pieces_read : List ℕ → ℕ → ℕ → Reading rules.Network
+abbrev pub pieces_read : List ℕ → ℕ → ℕ → Reading Network
 pieces_read s n c =
     nodes_up_to s n
     then λ nodes. channels_up_to s n c
     then λ all. end_read s all.end (record { nodes = nodes; channels = all.channels; tokens = all.tokens })
 
 -- a network was read, and these are its nodes, its channels and their places, with zeros behind the last one
-pub record PiecesDone (reading : Reading rules.Network) (nodes : List Node) (channels : List Channel) (placed : List ℤ) : Type 0 where
+pub record PiecesDone (reading : Reading Network) (nodes : List Node) (channels : List Channel) (placed : List ℤ) : Type 0 where
   pub tokens : List (List ℤ)
   pub reads : reading ≡ read (record { nodes = nodes; channels = channels; tokens = tokens })
   pub laid : placed ≡ padded 1024 (all_places channels tokens)
 
-abbrev pub PiecesRead : Reading rules.Network → List Node → List Channel → List ℤ → Result Unit Refusal → Type 0
+abbrev pub PiecesRead : Reading Network → List Node → List Channel → List ℤ → Result Unit Refusal → Type 0
 PiecesRead reading nodes channels placed (Ok done) = PiecesDone reading nodes channels placed
 PiecesRead reading nodes channels placed (Err why) = reading ≡ refused_by why

@@ -2,7 +2,7 @@
 // each read whole and then checked.
 #![tactic(auto)]
 
-ghost use Rattle.std.specs.Prelude.{◌≡◌, ◌+◌, ◌*◌, ◌≤◌, ◌<◌, pos, length, replicate, count_by, MatchOption};
+ghost use Rattle.std.specs.Prelude.{◌≡◌, ◌+◌, ◌*◌, ◌≤◌, ◌<◌, List, [], ℤ, pos, length, replicate, count_by, MatchOption};
 ghost use Rattle.rules.specs.Kinds.{inputs};
 ghost use Rattle.rules.specs.Table.{nodes_up_to, tokens_up_to, ends_at, faulty_node, network};
 ghost use Rattle.rules.specs.Refusals.{check, checked_says};
@@ -28,7 +28,7 @@ pub struct Network {
 // ---- Nodes
 
 // The nodes, as many as there are places for them.
-#[tactic(auto, unfolding(rules::specs::Table::nodes_up_to), using(std::proofs::lemmas::List::take_more_set, crate::proofs::Nodes::node_refused))]
+#[tactic(auto, unfolding(rules::specs::Table::nodes_up_to), using(std::proofs::lemmas::List::take_more_set, crate::proofs::Refused::node_refused))]
 fn read_nodes(s: &[u8], nodes: &mut [Node]) -> Result<(), Refusal>
     requires { length nodes.old ≤ 32 }
     ensures { says_by (λ done. nodes.new) result ≡ nodes_up_to s.now (length nodes.old) }
@@ -42,7 +42,7 @@ fn read_nodes(s: &[u8], nodes: &mut [Node]) -> Result<(), Refusal>
 // ---- Channels
 
 // The tokens that stand where the reader does, as many as there are places for them.
-#[tactic(auto, unfolding(rules::specs::Table::tokens_up_to, rules::specs::Table::token_piece), using(std::proofs::lemmas::List::take_more_set, crate::proofs::Tokens::token_missing))]
+#[tactic(auto, unfolding(rules::specs::Table::tokens_up_to, rules::specs::Table::token_piece), using(std::proofs::lemmas::List::take_more_set, crate::proofs::Refused::token_missing))]
 fn read_tokens(bits: Reader<'_>, tokens: &mut [i32]) -> Result<(), Refusal>
     requires { (bits.at < 65536) × (length tokens.old ≤ 1024) }
     ensures { says_by (λ done. tokens.new) result ≡ tokens_up_to bits.entry.bytes.now bits.entry.at (length tokens.old) }
@@ -65,7 +65,7 @@ fn read_channel(
     together: usize,
     tokens: &mut [i32; 1024],
 ) -> Result<Channel, Refusal>
-    requires { (bits.at < 65000) × (together ≤ 1024) × (length tokens.old ≡ 1024) }
+    requires { (bits.at < 65000) × (together ≤ 1024) }
     ensures { ChannelWithTokens bits.entry.bytes.now nodes c bits.entry.at together tokens.old result tokens.new }
 {
     let ch = pieces::channel_piece(bits, nodes, c, together)?;
@@ -121,7 +121,7 @@ fn served(channels: &[Channel], n: usize, p: u32) -> usize
 }
 
 // Whether port `p` of node `n`, which has so many inputs, is served as it should be.
-#[tactic(auto, using(crate::proofs::Ports::counted))]
+#[tactic(auto, using(crate::proofs::Ports::counted), unfolding(rules::specs::Lists::count, rules::specs::Lists::total))]
 fn port_ok(channels: &[Channel], n: usize, p: u32, inputs: u32) -> bool
     ensures { result ≡ served_right channels.now n inputs p }
 {
@@ -141,21 +141,18 @@ fn ports_ok(channels: &[Channel], n: usize, inputs: u32) -> bool
     (0..4).all(|p| port_ok(channels, n, p, inputs))
 }
 
-// How many inputs a node's kind has.
-#[tactic(auto, using(crate::proofs::Ports::no_inputs))]
+// How many inputs a node's kind has: none, where its number is of no kind.
+#[tactic(auto, unfolding(rules::specs::Kinds::inputs))]
 fn inputs_of(node: Node) -> u32
     ensures { result ≡ inputs node.kind }
 {
-    match Kind::try_from(node.kind) {
-        Ok(kind) => kind.inputs(),
-        Err(_) => 0,
-    }
+    Kind::try_from(node.kind).map_or(0, Kind::inputs)
 }
 
 // The lowest node with a port that is not served as it should be.
 #[tactic(auto, using(rules::proofs::ListLaws::lowest_none, crate::proofs::Ports::ports_by_all, crate::proofs::Ports::first_faulty), unfolding(rules::specs::Table::faulty_node))]
 fn faulty_node(nodes: &[Node], channels: &[Channel]) -> Option<usize>
-    ensures { let low = faulty_node (net_of nodes.now channels.now) in MatchOption result (low ≡ length nodes.now) (λ n. (n < length nodes.now) × (low ≡ n)) }
+    ensures { let low = faulty_node (net_of nodes.now channels.now []) in MatchOption result (low ≡ length nodes.now) (λ n. (n < length nodes.now) × (low ≡ n)) }
 {
     for (n, node) in nodes.iter().enumerate() {
         if !ports_ok(channels, n, inputs_of(*node)) {
@@ -165,12 +162,11 @@ fn faulty_node(nodes: &[Node], channels: &[Channel]) -> Option<usize>
     None
 }
 
-// ---- The whole table
-
 // The end of the table, where the reader stands, and the ports.
+#[tactic(auto, unfolding(rules::specs::Table::faulty_node, rules::specs::Network::ports_ok))]
 fn read_end(bits: Reader<'_>, nodes: &[Node], channels: &[Channel]) -> Result<(), Refusal>
     requires { bits.at < 65536 }
-    ensures { says_by (λ done. net_of nodes.now channels.now) result ≡ end_read bits.entry.bytes.now bits.entry.at (net_of nodes.now channels.now) }
+    ensures { (tokens : List (List ℤ)) → says_by (λ done. net_of nodes.now channels.now tokens) result ≡ end_read bits.entry.bytes.now bits.entry.at (net_of nodes.now channels.now tokens) }
 {
     if !ends(bits) {
         return Err(Refusal::Leftover);
@@ -181,8 +177,10 @@ fn read_end(bits: Reader<'_>, nodes: &[Node], channels: &[Channel]) -> Result<()
     }
 }
 
-// All that follows the header: as many nodes and channels as there are places for them, with the channels' tokens, whose places stood at zero.
-#[tactic(auto, using(crate::proofs::Whole::pieces_ended))]
+// ---- The whole table
+
+// All that follows the header: as many nodes and channels as there are places for them, and the channels' tokens, whose places stood at
+// zero.
 fn read_pieces(
     s: &[u8],
     nodes: &mut [Node],
