@@ -1,6 +1,6 @@
 -- Laws of a whole listing: the numbers by which a run is refused or stops tell its ends apart, so that its answer and its list say all
 -- of its lines. Assumes nothing.
-use Rattle.std.proofs.Common.{ℕ, zero, suc, ◌+◌, ◌-◌, ◌*◌, ◌/◌, ◌≤◌, List, [], ◌∷◌, ◌++◌, map, length, take, drop, ◌≡◌, refl, ap, ap₂, ◌∙◌, arith, Result, Ok, Err}
+use Rattle.std.proofs.Common.{ℕ, zero, suc, ◌-◌, ◌*◌, ◌/◌, ◌≤◌, List, [], ◌∷◌, ◌++◌, map, length, take, drop, ◌≡◌, refl, ap, ap₂, ◌∙◌, arith, Result, Ok, Err}
 use Rattle.std.proofs.Math.Seq.{take-append_seam}
 use Rattle.rules.specs.declared.End.{End}
 use Rattle.rules.specs.declared.Ran.{Ran}

@@ -6,7 +6,7 @@ use native.Mathlib.Omega.{arith}
 use mathlib.Core.List.{List, [], ◌∷◌, map}
 use mathlib.Core.Path.{◌≡◌, refl, sym, ◌∙◌, ap, ap₂}
 use lib.IntN.{ℤ, pos}
-use lib.ListN.{length, get_or, length-append, length-replicate, get_or-append}
+use lib.ListN.{length, get_or, length-append, get_or-append}
 use lib.Seq.{get_or-append-add}
 use Rattle.rules.specs.declared.Channel.{Channel}
 use Rattle.rules.specs.Lists.{total}
@@ -16,17 +16,10 @@ use Rattle.rules.proofs.Checks.{fields_of}
 use Rattle.rules.proofs.KindLaws.{signed_pattern}
 use Rattle.rules.proofs.TokenLaws.{AllFit}
 use Rattle.table.specs.Laid.{places, all_places, padded}
+use Rattle.table.proofs.Places.{length_places, length_padded}
 use Rattle.rings.specs.Rings.{queue_of}
 use Rattle.rings.proofs.RingLaws.{wrapped_low}
 use Rattle.setup.proofs.StartRings.{capacities_climb}
-
-length_places : (ch : Channel) (held : List ℤ) → length held ≤ ch.capacity → length (places ch held) ≡ ch.capacity
-unfolding places
-length_places ch held within = simp (length-append, length-replicate) (omega arith)
-
-length_padded : (n : ℕ) (l : List ℤ) → length l ≤ n → length (padded n l) ≡ n
-unfolding padded
-length_padded n l within = simp (length-append, length-replicate) (omega arith)
 
 -- the tokens of bits that stand for tokens
 pub signed_patterns : (l : List ℤ) → AllFit l → map signed (map pattern l) ≡ l
