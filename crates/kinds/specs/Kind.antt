@@ -1,5 +1,5 @@
 -- The kinds by their numbers. Assumes nothing.
-use Rattle.std.specs.Prelude.{ℕ, ◌≤◌, ◌≡◌, Result, MatchResult}
+use Rattle.std.specs.Prelude.{ℕ, ◌≤◌, ◌≡◌, List, ◌++◌, Result, MatchResult, codes, decimal}
 use Rattle.kinds.specs.declared.Kind.{Kind}
 use Rattle.kinds.specs.declared.UnknownKind.{UnknownKind}
 
@@ -21,3 +21,7 @@ kind_number Kind.FirstBeam = 11
 -- the kind with this number, or that no kind has it
 abbrev pub Decodes : ℕ → Result Kind UnknownKind → Type 0
 Decodes number r = MatchResult r (λ kind. kind_number kind ≡ number) (λ unknown. 12 ≤ number)
+
+-- what a number that stands for no kind is shown as
+abbrev pub unknown_text : UnknownKind → List ℕ
+unknown_text unknown = decimal unknown.0 ++ codes " is no kind"

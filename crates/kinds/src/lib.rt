@@ -1,10 +1,10 @@
 // What a node computes and how its state moves on, by value.
 #![tactic(auto)]
 
-ghost use Rattle.std.specs.Prelude.{◌≡◌, ◌+◌, ◌^◌, ◌<◌, min, false};
+ghost use Rattle.std.specs.Prelude.{◌≡◌, ◌+◌, ◌^◌, ◌<◌, min, false, Some};
 ghost use Rattle.rules.specs.Kinds.{is_zero, constant_ok, result as kind_result, inputs};
 ghost use Rattle.kinds.specs.declared.Kind.{Kind};
-ghost use Rattle.kinds.specs.Kind.{kind_number, Decodes};
+ghost use Rattle.kinds.specs.Kind.{kind_number, Decodes, unknown_text};
 ghost use Rattle.kinds.specs.Nodes.{never, said, ahead_of};
 
 use std::error::Error;
@@ -39,6 +39,8 @@ pub enum Kind {
 pub struct UnknownKind(pub u32);
 
 impl fmt::Display for UnknownKind {
+    ghost output = { λ unknown. Some (unknown_text unknown) };
+
     fn fmt<W: fmt::Write>(&self, f: &mut fmt::Formatter<W>) -> fmt::Result {
         write!(f, "{} is no kind", self.0)
     }
