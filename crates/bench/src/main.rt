@@ -83,6 +83,7 @@ fn run_all(out: &mut impl Write, cases: Blocks<'_>) -> io::Result<()> {
     Ok(())
 }
 
+// `tables` has the same three lines over a buffer of its own size: a function over the size and over what is done with a row would be longer.
 fn main(rt: HostRuntime) -> io::Result<()> {
     let mut input = [0u8; 65536];
     let n = blocks::read_full(&mut rt.stdin(), &mut input)?;

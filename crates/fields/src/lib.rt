@@ -27,7 +27,7 @@ fn value_at(s: &[u8], at: usize, width: usize) -> u32
     value
 }
 
-// A reader of lent bytes: the bytes, and the bit that it stands at.
+// A reader of lent bytes: the bytes, and the bit that it stands at, whatever it is. That it is low enough is asked by those who add to it.
 #[derive(Clone, Copy, Debug, PartialEq, Eq)]
 pub struct Reader<'a> {
     pub bytes: &'a [u8],
@@ -88,7 +88,7 @@ pub fn signed(x: u32) -> i32
     x.cast_signed()
 }
 
-// The 32 bits of a token.
+// The 32 bits of a token. No code here calls it: a public function that docs/STATEMENTS.md names.
 pub fn pattern(x: i32) -> u32
     ensures { result ≡ of_z w32 x }
 {

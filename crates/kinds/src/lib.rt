@@ -10,8 +10,9 @@ ghost use Rattle.kinds.specs.Nodes.{never, said, ahead_of};
 use std::error::Error;
 use std::fmt;
 
-// Later than any instant: a node with nothing waiting is due then. A number, since with an Option in its place an activation takes 103 to 113
-// instructions, where its bar is 93 (docs/DESIGN-PASS.md).
+// Later than any instant: a node with nothing waiting is due then, one that is not there is released then (`Unused`), and so is an instant after which
+// nothing comes (`arrival_at`). A number, since with an Option for the due instant an activation takes 103 to 113 instructions, where its bar is 93
+// (docs/DESIGN-PASS.md).
 pub const NEVER: u32 = 4294967295;
 
 // ---- Kinds
@@ -99,7 +100,7 @@ impl Kind {
     }
 
     // The result with constant `k` on the inputs `a`, `b` and `c`, or that it is absent. The quotient goes toward zero; the one that 32 bits do not
-    // hold is the least number again.
+    // hold is the least number again. The inputs stand apart, as the definition `result` has them.
     #[tactic(auto, using(rules::proofs::KindLaws::zero_of_bits, crate::proofs::Results::ones_within), unfolding(rules::specs::Kinds::result, rules::specs::Kinds::sum, rules::specs::Kinds::difference, rules::specs::Kinds::smaller, rules::specs::Kinds::larger, rules::specs::Kinds::quotient, rules::specs::Kinds::ones, rules::specs::Kinds::first_beam))]
     pub fn result(self, k: i32, a: i32, b: i32, c: i32) -> Option<i32>
         requires { self ≡ Kind.Quotient → is_zero k ≡ false }

@@ -28,7 +28,8 @@ pub struct Station {
     pub input: [u32; 4],
 }
 
-// What stays over a run.
+// What stays over a run, in arrays with their counts beside them, since the engine has no heap. A walk is a chain of channel numbers, so that an
+// instant costs what happens in it. A writer is the number of its record, that of the outside too, as `Wired` has it.
 #[derive(Clone, Copy, Default)]
 pub struct Plan {
     // How many nodes and channels there are, and the first channel to the outside.
@@ -57,7 +58,7 @@ pub struct Ring {
 #[derive(Clone, Copy, Default)]
 pub struct State {
     pub ring: [Ring; 64],
-    // The tokens of all rings.
+    // The tokens of all rings, one ring after another: no heap, and all capacities together are at most 1,024.
     pub tokens: [i32; 1024],
     // Of each node: its next release, when its waiting result is due, and the result; and of each pair of nodes the earliest of these instants.
     pub next: [u32; 32],

@@ -26,7 +26,8 @@ const WORDS: usize = 2048;
 
 // ---- Text
 
-// Lent bytes, of which the first `len` are put.
+// Lent bytes, of which the first `len` are put, by hand: `write!` says what it wrote only where it succeeds, and `listing` promises the whole text
+// (`Listed`). No heap, so no `String`.
 #[derive(Drop)]
 struct Text<'a> {
     bytes: &'a mut [u8],
@@ -156,7 +157,8 @@ fn parts(s: &[u8]) -> Option<Input<'_>>
     })
 }
 
-// Reads the arrivals, of eight bytes each, into the front of a list; answers how many there are.
+// Reads the arrivals, of eight bytes each, into the front of a list; answers how many there are. `bench` has a loop of its own, over chunks that are
+// taken apart already.
 #[tactic(auto, unfolding(rules::specs::Lists::tab, rules::specs::Lists::tab_from))]
 fn read_arrivals(bytes: &[u8], arrivals: &mut [u64]) -> usize
     requires { length bytes.now / 8 ≤ length arrivals.old }

@@ -12,6 +12,7 @@ use rules::{Channel, Counts, Node, OUTSIDE, Refusal};
 
 // ---- The header
 
+// Two numbers, as the definition `counts_ok` has them.
 #[tactic(auto, unfolding(rules::specs::Network::counts_ok))]
 fn counts_ok(nodes: usize, channels: usize) -> bool
     ensures { result ≡ counts_ok nodes channels }

@@ -65,7 +65,7 @@ impl Refusal {
         }
     }
 
-    // Its place.
+    // Its place, 0 where there is none: C's answer and the listing's last line have it so.
     pub fn place(self) -> usize
         ensures { result ≡ place_of self }
     {
@@ -110,6 +110,7 @@ impl fmt::Display for Counts {
     }
 }
 
+// What an end says in numbers is 0 where there is nothing to say, as C's answer and the listing's last line have it.
 // How a run ends: at its horizon, or stopped at an instant, with a full channel or because its words do not fit.
 #[derive(Clone, Copy, Debug, PartialEq, Eq)]
 pub enum End {

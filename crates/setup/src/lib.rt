@@ -18,11 +18,12 @@ use std::array::from_fn;
 use std::mem;
 use table::Network;
 
-// Nodes have numbers below this: any other, as a writer or a reader, is the outside.
+// Nodes have numbers below this: any other, as a writer or a reader, is the outside. A number, as the record of a channel has it (`channel_at`).
 const MOST_NODES: u32 = 32;
 
 // ---- Of the channels and the nodes
 
+// What a channel does, by the one bit of its record: no number is refused, so this is no `TryFrom`.
 fn sort_of(channel: &Channel) -> Sort
     requires { channel.now.sort < 2 }
     ensures { sort_number result ≡ channel.now.sort }
@@ -132,8 +133,8 @@ fn station(node: Node, first: u32, input: [u32; 4]) -> Station
 
 // ---- The set-up
 
-// The channels' and the nodes' records as the network has them, and what is made of them. The hint keeps the stack that a run takes within the
-// header's figure, as the next one does.
+// The channels' and the nodes' records as the network has them, and what is made of them. The hint, and that of
+// `write_state`, keeps the stack that a run takes within the header's figure.
 #[inline(never)]
 fn write_plan(network: &Network, plan: &mut Plan)
     requires { Fits network.now }

@@ -1,6 +1,7 @@
 // One instant of a run, in the steps of document 01's "One instant", a function for each, on the plan and the state that a run lends. The plan is
 // lent beside the state: that it stays is then in its type, and would else be a clause of each function here. What is asked of the two (`AbleIn`,
-// `Whole`, `Timely`) is no invariant of a type, since `rings` asks less and `setup` makes them field by field.
+// `Whole`, `Timely`) is no invariant of a type: `rings` asks `RingsIn` alone, an instant breaks `Timely` and mends it, and `setup` makes the plan
+// before the state. So what is asked of an instant, a pair, a node or a channel stands with each function too.
 #![tactic(auto)]
 
 ghost use Rattle.std.specs.Prelude.{◌≡◌, ℕ, ◌↔◌, IsTrue, ◌+◌, ◌*◌, ◌^◌, ◌≤◌, ◌<◌, min, length, get_or};
@@ -18,6 +19,8 @@ use kinds::{NEVER, Pending};
 use layout::{NONE, Plan, State};
 
 // ---- Step 1: writes
+
+// The lowest channel without room is a number, and the number of channels where there is none, as `rings::put` has it and `WroteAll` says it.
 
 // Writes a token to each channel of a walk. Answers the lowest one without room, or `before` where that is lower. A walk ends at a number, since
 // with an Option at its end an activation takes 93.4 instructions, where its bar is 93 (docs/DESIGN-PASS.md).
@@ -105,7 +108,8 @@ fn write_arrivals(
 
 // ---- Step 3: words
 
-// This instant's output words, by channel number, first in `words`; answers how many.
+// This instant's output words, by channel number, first in `words`; answers how many. A writer is the number of its record, and no node from 32 on, as
+// `Wired` has it. `words` is lent, and filled from its front: made here it would be cleared at each instant.
 fn gather(plan: &Plan, state: &State, t: u32, words: &mut [u64; 64]) -> usize
     requires { Climbs (channels_of plan.now) (ways_of plan.now).follow_out (ways_of plan.now).first_out × (t < 2 ^ 24) × (length words.old ≡ 64) }
     ensures { GatheredIn plan.now state.now t words.new result × (length words.new ≡ 64) }
@@ -262,7 +266,7 @@ fn read_pair(plan: &Plan, state: &mut State, t: u32, pair: usize) -> u32
     soon
 }
 
-// The reads. Answers the earliest instant at which a node is then released or due, or `from` if that is earlier.
+// The reads: a loop like that of `write_due` with another step, which is no longer than a call with a closure. Answers the earliest instant at which a node is then released or due, or `from` if that is earlier.
 fn read_all(plan: &Plan, state: &mut State, t: u32, from: u32) -> u32
     requires { AbleIn plan.now × Whole plan.now state.old × Timely plan.now state.old t }
     ensures { ReadAll plan.now state.old t from state.new result }
@@ -292,7 +296,7 @@ pub enum Stop {
 }
 
 // The words and the reads, once no queue is overfull. The list and the count of its words stand apart here and in `instant`, whose clause `says` has
-// them so.
+// them so, and so do the arrivals and where they go on; its clause `kept` is of the length that the type of `words` has.
 fn words_and_reads(
     plan: &Plan,
     state: &mut State,

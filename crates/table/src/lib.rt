@@ -14,7 +14,7 @@ use fields::Reader;
 use kinds::Kind;
 use rules::{Channel, Counts, Node, Refusal};
 
-// A network: its nodes and channels, zero behind the last. Each channel has as many places among the tokens as its capacity, one channel after
+// A network, in arrays with their counts beside them, since the check has no heap: its nodes and channels, zero behind the last. Each channel has as many places among the tokens as its capacity, one channel after
 // another: its initial tokens, then zeros; and zeros behind the last channel.
 #[derive(Clone, Copy)]
 pub struct Network {
@@ -149,7 +149,7 @@ fn inputs_of(node: Node) -> u32
     Kind::try_from(node.kind).map_or(0, Kind::inputs)
 }
 
-// The lowest node with a port that is not served as it should be.
+// The lowest node with a port that is not served as it should be. Nodes and channels are lent apart, since no network is there yet.
 #[tactic(auto, using(rules::proofs::ListLaws::lowest_none, crate::proofs::Ports::ports_by_all, crate::proofs::Ports::first_faulty), unfolding(rules::specs::Table::faulty_node))]
 fn faulty_node(nodes: &[Node], channels: &[Channel]) -> Option<usize>
     ensures { let low = faulty_node (net_of nodes.now channels.now []) in MatchOption result (low ≡ length nodes.now) (λ n. (n < length nodes.now) × (low ≡ n)) }
@@ -197,7 +197,8 @@ fn read_pieces(
 
 // The hints on inlining from here on keep the stack that a call takes within the header's figures, which `tools/c-example` measures.
 
-// The network that follows a header with these counts, zero behind its pieces.
+// The network that follows a header with these counts, zero behind its pieces. They are read into locals, and put into the struct at the end: read
+// into its fields they took several times the instructions (docs/DECISIONS.md).
 #[inline(always)]
 fn read_rest(s: &[u8], counts: Counts) -> Result<Network, Refusal>
     requires { (counts.nodes ≤ 32) × (counts.channels ≤ 64) }
