@@ -266,7 +266,8 @@ fn read_pair(plan: &Plan, state: &mut State, t: u32, pair: usize) -> u32
     soon
 }
 
-// The reads: a loop like that of `write_due` with another step, which is no longer than a call with a closure. Answers the earliest instant at which a node is then released or due, or `from` if that is earlier.
+// The reads: a loop like that of `write_due` with another step, which is no longer than a call with a closure. Answers the earliest instant at
+// which a node is then released or due, or `from` if that is earlier.
 fn read_all(plan: &Plan, state: &mut State, t: u32, from: u32) -> u32
     requires { AbleIn plan.now × Whole plan.now state.old × Timely plan.now state.old t }
     ensures { ReadAll plan.now state.old t from state.new result }

@@ -14,8 +14,8 @@ use fields::Reader;
 use kinds::Kind;
 use rules::{Channel, Counts, Node, Refusal};
 
-// A network, in arrays with their counts beside them, since the check has no heap: its nodes and channels, zero behind the last. Each channel has as many places among the tokens as its capacity, one channel after
-// another: its initial tokens, then zeros; and zeros behind the last channel.
+// A network, in arrays with their counts beside them, since the check has no heap: its nodes and channels, zero behind the last. Each channel has
+// as many places among the tokens as its capacity, one channel after another: its initial tokens, then zeros; and zeros behind the last channel.
 #[derive(Clone, Copy)]
 pub struct Network {
     pub nodes: usize,
