@@ -25,7 +25,7 @@ fn too_early(arrivals: &[u64], i: usize) -> bool
     i > 0 && words::time_in(arrivals[i]) < words::time_in(arrivals[i - 1])
 }
 
-// Whether arrival `i` is faulty.
+// Whether arrival `i` is faulty. A writer is the number of its record, as `faulty_by` has it.
 #[tactic(auto, unfolding(crate::specs::Arrivals::faulty_by))]
 fn arrival_faulty(plan: &Plan, arrivals: &[u64], i: usize) -> bool
     requires { (channels_of plan.now ≤ 64) × (i < length arrivals.now) }
@@ -55,7 +55,8 @@ fn end_at(stop: Stop, instant: usize) -> End
     }
 }
 
-// Runs a plan and a state over the instants up to the horizon at which something happens.
+// Runs a plan and a state over the instants up to the horizon at which something happens. The list and the count of its words stand apart, as
+// `steps::instant` has them.
 #[tactic(auto, using(crate::proofs::RunLaws::progress_start, crate::proofs::RunLaws::run_ends))]
 fn run_prepared(
     plan: &Plan,

@@ -158,7 +158,7 @@ fn parts(s: &[u8]) -> Option<Input<'_>>
 }
 
 // Reads the arrivals, of eight bytes each, into the front of a list; answers how many there are. `bench` has a loop of its own, over chunks that are
-// taken apart already.
+// taken apart already. The list is lent with the room for the most there can be, since there is no heap.
 #[tactic(auto, unfolding(rules::specs::Lists::tab, rules::specs::Lists::tab_from))]
 fn read_arrivals(bytes: &[u8], arrivals: &mut [u64]) -> usize
     requires { length bytes.now / 8 ≤ length arrivals.old }

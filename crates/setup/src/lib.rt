@@ -23,6 +23,8 @@ const MOST_NODES: u32 = 32;
 
 // ---- Of the channels and the nodes
 
+// The channels are lent as a slice of those that are there, at most 64 as `Fits` has it: no type of a slice says so.
+
 // What a channel does, by the one bit of its record: no number is refused, so this is no `TryFrom`.
 fn sort_of(channel: &Channel) -> Sort
     requires { channel.now.sort < 2 }
