@@ -50,7 +50,7 @@ impl<'a> Case<'a> {
         })
     }
 
-    // Runs the case, and says what comes of it and what the list then holds.
+    // Runs the case, and says what comes of it and what the list then holds. `listing` has a loop over arrivals of its own: see there.
     fn run(&self, out: &mut impl Write) -> io::Result<()> {
         let mut arrivals = [0u64; MOST_ARRIVALS];
         for (arrival, bytes) in arrivals.iter_mut().zip(self.arrivals) {

@@ -11,8 +11,8 @@ use std::error::Error;
 use std::fmt;
 
 // Later than any instant: a node with nothing waiting is due then, one that is not there is released then (`Unused`), and so is an instant after which
-// nothing comes (`arrival_at`). A number, since with an Option for the due instant an activation takes 103 to 113 instructions, where its bar is 93
-// (docs/DESIGN-PASS.md).
+// nothing comes (`arrival_at`). A number, since with an Option for the due instant, or for the result that waits, an activation takes 103 to 113
+// instructions, where its bar is 93 (docs/DESIGN-PASS.md).
 pub const NEVER: u32 = 4294967295;
 
 // ---- Kinds
@@ -125,7 +125,7 @@ impl Kind {
 
 // ---- A node's state
 
-// A node's next release and its waiting result, which move on together.
+// A node's next release and its waiting result, which move on together. With nothing waiting, `due` is NEVER, and no Option: see there.
 #[derive(Clone, Copy, Debug, PartialEq, Eq)]
 pub struct Pending {
     pub next: u32,

@@ -85,7 +85,7 @@ pub fn node_piece(s: &[u8], n: usize) -> Result<Node, Refusal>
 
 // ---- Channels
 
-// Whether a channel's end is a node or the outside.
+// Whether a channel's end is a node or the outside, which is a number: the definition `end_ok` has it so.
 fn end_ok(nodes: usize, n: u32) -> bool
     ensures { result ≡ end_ok nodes n }
 {

@@ -59,7 +59,7 @@ fn bases(channels: &[Channel]) -> [u32; 64]
     base
 }
 
-// The channel at each port of each node: the last one that serves it.
+// The channel at each port of each node: the last one that serves it. A reader is a number, from MOST_NODES on the outside.
 fn inputs(channels: &[Channel]) -> [[u32; 4]; 32]
     requires { (length channels.now ≤ 64) × ((c : ℕ) → c < length channels.now → (channel_among channels.now c).port < 4) }
     ensures { PortsOf (length channels.now) channels.now result }
@@ -82,7 +82,7 @@ struct Ways {
     outs: [u32; 64],
 }
 
-// They are made from the last channel to the first, so that each one leads to what was the first.
+// They are made from the last channel to the first, so that each one leads to what was the first. Writers are numbers as in `inputs`.
 fn walks(channels: &[Channel]) -> Ways
     requires { length channels.now ≤ 64 }
     ensures { WalksOf channels.now result.first result.follow result.out result.outs }
@@ -106,7 +106,7 @@ fn walks(channels: &[Channel]) -> Ways
     }
 }
 
-// Each node's next release: 0, and never for nodes that are not there.
+// Each node's next release: 0, and NEVER, a number as there, for nodes that are not there.
 fn releases(nodes: usize) -> [u32; 32]
     requires { nodes ≤ 32 }
     ensures { ReleasesOf nodes 32 result }

@@ -52,7 +52,7 @@ fn write_pair(plan: &Plan, state: &mut State, t: u32, pair: usize, before: usize
     full
 }
 
-// Writes the results that are due. Answers the lowest channel without room, or the number of channels.
+// Writes the results that are due, in a loop like that of `read_all`: see there. Answers the lowest channel without room, or the number of channels.
 fn write_due(plan: &Plan, state: &mut State, t: u32) -> usize
     requires { AbleIn plan.now × Whole plan.now state.old × Timely plan.now state.old t }
     ensures { WroteAll plan.now state.old t state.new result }
@@ -169,7 +169,7 @@ fn take_all<const N: usize>(plan: &Plan, state: &mut State, n: usize) -> Option<
 }
 
 // Those of a node by the number of its inputs, and 0 for the ports that it has not. A match, since with a loop over a number of ports that is not
-// known before an activation takes 103 to 109 instructions, where its bar is 93 (docs/DESIGN-PASS.md).
+// known before an activation takes 103 to 106 instructions, where its bar is 93 (docs/DESIGN-PASS.md).
 fn take_inputs(plan: &Plan, state: &mut State, n: usize, count: u32) -> Option<[i32; 3]>
     requires { RingsIn plan.now state.old × (n < 32) × Ported (channels_of plan.now) (wires_of plan.now).input n count }
     ensures { TookIn plan.now state.old n count state.new result }

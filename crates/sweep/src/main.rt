@@ -37,7 +37,8 @@ fn next_input<'a>(source: &mut impl Read, room: &'a mut [u8]) -> Result<Option<&
     Ok(Some(input))
 }
 
-// Writes the listing of these bytes, which is put into the text. No law says that it fits, so one that does not is left out here; `pole` says so.
+// Writes the listing of these bytes, which is put into a text that is lent, with its length as the answer (`Listed`). No law says that it fits, so one
+// that does not is left out here; `pole` says so.
 fn list(out: &mut impl Write, s: &[u8], text: &mut [u8]) -> io::Result<()> {
     let n = listing::listing(s, text);
     if let Some(listing) = text.get(..n) {

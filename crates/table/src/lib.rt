@@ -75,7 +75,7 @@ fn read_channel(
 }
 
 // The channels, behind `nodes` nodes, as many as there are places for them, with their tokens, which stood at zero; answers the bit behind
-// them.
+// them. They are lent as a slice of those that are there, at most 64: no type of a slice says so.
 #[tactic(auto, using(crate::proofs::ChannelTurn::no_channels, crate::proofs::ChannelTurn::channel_next, crate::proofs::ChannelTurn::refused_next, crate::proofs::ChannelTurn::all_done, crate::proofs::Piece::channel_room))]
 fn read_channels(
     s: &[u8],
@@ -162,7 +162,7 @@ fn faulty_node(nodes: &[Node], channels: &[Channel]) -> Option<usize>
     None
 }
 
-// The end of the table, where the reader stands, and the ports.
+// The end of the table, where the reader stands, and the ports, of nodes and channels that are lent apart as for `faulty_node`.
 #[tactic(auto, unfolding(rules::specs::Table::faulty_node, rules::specs::Network::ports_ok))]
 fn read_end(bits: Reader<'_>, nodes: &[Node], channels: &[Channel]) -> Result<(), Refusal>
     requires { bits.at < 65536 }

@@ -25,6 +25,7 @@ fn check_all(out: &mut impl Write, tables: Blocks<'_>) -> io::Result<()> {
     Ok(())
 }
 
+// `bench` has the same three lines over a buffer of its own size: see there.
 fn main(rt: HostRuntime) -> io::Result<()> {
     let mut input = [0u8; 262144];
     let n = blocks::read_full(&mut rt.stdin(), &mut input)?;
