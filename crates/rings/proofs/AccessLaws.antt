@@ -31,6 +31,9 @@ head_seen s c = get_or-map (λ (r : Ring). r.head) s.ring c (record { head = 0; 
 pub len_seen : (s : State) (c : ℕ) → get_or (cells_of s).len c 0 ≡ (ring_of s c).len
 len_seen s c = get_or-map (λ (r : Ring). r.len) s.ring c (record { head = 0; len = 0 })
 
+-- what a channel's sort and ring are in the views
+pub ruleset ring_seen = (sort_seen, head_seen, len_seen)
+
 -- another length alone
 len_set : (s : State) (c l : ℕ) → map (λ (r : Ring). r.head) (set s.ring c (record { head = (ring_of s c).head; len = l })) ≡ (cells_of s).head
 len_set s c l = map-set_same (λ (r : Ring). r.head) s.ring c (record { head = (ring_of s c).head; len = l }) (record { head = 0; len = 0 }) refl

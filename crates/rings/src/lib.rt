@@ -17,7 +17,7 @@ fn wrap(x: u32, capacity: u32) -> u32
 
 // Writes a token to channel `c`: a queue appends it, a register keeps it. Answers `full`, or `c` where that is lower and there was no room:
 // a number of a channel or, for none, of all channels, as the clause `answer` has it.
-#[tactic(auto, using(crate::proofs::AccessLaws::sort_seen, crate::proofs::AccessLaws::head_seen, crate::proofs::AccessLaws::len_seen), unfolding(crate::specs::Rings::wrapped, crate::specs::Access::put_in, crate::specs::Access::full_by))]
+#[tactic(auto, using(crate::proofs::AccessLaws::ring_seen), unfolding(crate::specs::Rings::wrapped, crate::specs::Access::put_in, crate::specs::Access::full_by))]
 pub fn put(plan: &Plan, state: &mut State, c: usize, v: i32, full: usize) -> usize
     requires { Rings (shape_of plan.now) (cells_of state.old) × (c < channels_of plan.now) }
     ensures after { state.new ≡ put_in plan.now state.old c v }
@@ -42,7 +42,7 @@ pub fn put(plan: &Plan, state: &mut State, c: usize, v: i32, full: usize) -> usi
 }
 
 // Takes the oldest token of a queue, or reads a register.
-#[tactic(auto, using(crate::proofs::AccessLaws::sort_seen, crate::proofs::AccessLaws::head_seen, crate::proofs::AccessLaws::len_seen), unfolding(crate::specs::Rings::wrapped, crate::specs::Access::taken_in, crate::specs::Access::oldest_in))]
+#[tactic(auto, using(crate::proofs::AccessLaws::ring_seen), unfolding(crate::specs::Rings::wrapped, crate::specs::Access::taken_in, crate::specs::Access::oldest_in))]
 pub fn take(plan: &Plan, state: &mut State, c: usize) -> i32
     requires { Rings (shape_of plan.now) (cells_of state.old) × (c < channels_of plan.now) × (1 ≤ get_or (cells_of state.old).len c 0) }
     ensures after { state.new ≡ taken_in plan.now state.old c }

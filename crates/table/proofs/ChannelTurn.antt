@@ -101,3 +101,6 @@ module _ (s : List ℕ) (nodes : ℕ) (channels : List Channel) (placed : List �
           listed = sym (take_all c channels (omega arith)) ∙ got.listed;
           laid = got.laid;
         }
+
+-- the loop over the channels: before it, a turn, a refusal, and behind it
+pub ruleset channel_turns = (no_channels, channel_next, refused_next, all_done)

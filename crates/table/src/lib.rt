@@ -76,7 +76,7 @@ fn read_channel(
 
 // The channels, behind `nodes` nodes, as many as there are places for them, with their tokens, which stood at zero; answers the bit behind
 // them. They are lent as a slice of those that are there, at most 64: no type of a slice says so.
-#[tactic(auto, using(crate::proofs::ChannelTurn::no_channels, crate::proofs::ChannelTurn::channel_next, crate::proofs::ChannelTurn::refused_next, crate::proofs::ChannelTurn::all_done, crate::proofs::Piece::channel_room))]
+#[tactic(auto, using(crate::proofs::ChannelTurn::channel_turns, crate::proofs::Piece::channel_room))]
 fn read_channels(
     s: &[u8],
     nodes: usize,
