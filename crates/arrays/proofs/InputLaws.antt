@@ -1,40 +1,20 @@
 -- The inputs of a node on a plan and a state: whether its ports hold tokens, by the number of its inputs, and the takes at its ports one after
 -- another. Assumes nothing.
 use Prim.Native.Nat.{ℕ, suc, ◌≤◌, ◌<◌}
-use mathlib.Core.Bool.{Bool, true, not, ◌&&◌}
-use mathlib.Core.List.{List}
-use mathlib.Core.Path.{◌≡◌, refl, sym, ◌∙◌}
-use lib.Dec.{eqb}
+use mathlib.Core.Bool.{true}
+use mathlib.Core.Path.{◌≡◌, refl, ◌∙◌}
 use lib.ListN.{get_or}
 use Rattle.rules.specs.Kinds.{pattern}
-use Rattle.rules.specs.Lists.{every}
 use Rattle.layout.specs.declared.Plan.{Plan}
 use Rattle.layout.specs.declared.State.{State}
-use Rattle.layout.specs.Views.{Shape, Cells, channels_of, shape_of, wires_of, cells_of, nodes_from}
+use Rattle.layout.specs.Views.{channels_of, shape_of, wires_of, cells_of, nodes_from}
 use Rattle.rings.specs.Rings.{Took}
 use Rattle.rings.specs.Access.{taken_in, oldest_in}
 use Rattle.rings.proofs.AccessLaws.{take_took}
 use Rattle.arrays.specs.Taking.{port_of, Ported, all_hold, found, taken_at}
 use Rattle.arrays.specs.Instants.{RingsIn}
-use Rattle.arrays.proofs.TakenPorts.{lengths_hold, took_at_port, found_there}
+use Rattle.arrays.proofs.TakenPorts.{took_at_port, found_there}
 use Rattle.arrays.proofs.PortsInTurn.{queue_below, no_port_yet, port_found, port_holds, next_port, all_ports}
-
--- the channel at port p holds a token, by its ring's length
-abbrev pub holds_at : Cells → List (List ℕ) → ℕ → ℕ → Bool
-holds_at x input n p = not (eqb (get_or x.len (port_of input n p) 0) 0)
-
-module _ (s : Shape) (x : Cells) (input : List (List ℕ)) (n : ℕ) where
-  pub hold_one : all_hold s x input n 1 ≡ holds_at x input n 0
-  unfolding every
-  hold_one = sym (lengths_hold s x input n 1)
-
-  pub hold_two : all_hold s x input n 2 ≡ (holds_at x input n 0 && holds_at x input n 1)
-  unfolding every
-  hold_two = sym (lengths_hold s x input n 2)
-
-  pub hold_three : all_hold s x input n 3 ≡ ((holds_at x input n 0 && holds_at x input n 1) && holds_at x input n 2)
-  unfolding every
-  hold_three = sym (lengths_hold s x input n 3)
 
 -- the first k of a node's ports are taken, and no node is touched
 pub record TakenTo (p : Plan) (s : State) (n count k : ℕ) (z : State) : Type 0 where

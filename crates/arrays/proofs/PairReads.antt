@@ -2,43 +2,17 @@
 -- are not taken. Assumes nothing.
 use Prim.Native.Nat.{ℕ, ◌+◌, ◌*◌, ◌^◌, ◌<◌, min}
 use native.Mathlib.Omega.{arith}
-use mathlib.Core.List.{List}
-use mathlib.Core.Path.{◌≡◌, refl, sym, ◌∙◌, ap}
-use lib.ListN.{get_or, set, length, length-set}
-use lib.Seq.{get_or-set_same, get_or-set_other}
-use borrow.Author.Tests.{eqb-false}
+use mathlib.Core.Path.{◌≡◌, refl, sym, ◌∙◌}
+use lib.ListN.{get_or}
 use Rattle.kinds.specs.Nodes.{never}
 use Rattle.layout.specs.declared.Plan.{Plan}
 use Rattle.layout.specs.declared.State.{State}
 use Rattle.layout.specs.Views.{nodes_of, pendings_of, soons_of}
 use Rattle.arrays.specs.Nodes.{soon_at, pair_soon}
 use Rattle.arrays.specs.Instants.{AbleIn, Whole}
-use Rattle.arrays.specs.Turns.{PairTurned, PairRead}
+use Rattle.arrays.specs.Turns.{PairRead}
 use Rattle.arrays.proofs.TurnsIn.{turn_idle}
 use Rattle.arrays.proofs.PairTurns.{PairTo, pair_starts, pair_turn, pair_ends}
-
--- a pair whose earliest instant is kept in a state
-pub pair_held : (p : Plan) (s : State) (t g : ℕ) (y : State) (r : ℕ) → g < 16 → PairTurned p s t g y r → soons_of y ≡ soons_of s
-    → PairRead p s t g (record y { soon = set y.soon g r }) r
-pair_held p s t g y r few done same =
-    let there : g < length (soons_of y) = omega (arith, done.whole.pairs) in
-    record {
-      turned =
-          record {
-            whole =
-                record {
-                  rings = done.whole.rings;
-                  sized = done.whole.sized;
-                  pairs = rw length-set done.whole.pairs;
-                  unused = done.whole.unused;
-                };
-            read = done.read;
-            soon = done.soon;
-            others = done.others;
-          };
-      held = get_or-set_same (soons_of y) g r 0 there;
-      others = λ h other. get_or-set_other (soons_of y) g h r 0 (eqb-false h g other) ∙ ap (λ (l : List ℕ). get_or l h 0) same;
-    }
 
 -- a pair that is not due
 module _ (p : Plan) (s : State) (t g : ℕ) (able : AbleIn p) (whole : Whole p s) (early : t < 2 ^ 24) (below : 2 * g < nodes_of p) (later : t < pair_soon (pendings_of s) g) where

@@ -1,6 +1,6 @@
 -- A release by its two outcomes: it goes ahead with what its inputs make, or it skips. Assumes nothing.
 use Prim.Native.Nat.{ℕ, ◌+◌, ◌<◌}
-use mathlib.Core.Bool.{true, false}
+use mathlib.Core.Bool.{true}
 use mathlib.Core.Path.{◌≡◌, refl}
 use lib.IntN.{ℤ}
 use lib.ListN.{get_or}
@@ -31,8 +31,3 @@ module _ {w : Wires} {s : Shape} {x y : Cells} {n : ℕ} (took : Took s x (taken
         next = refl;
         waits = rw (holds, ← first, ← second, ← third, ← makes) (ahead_waits before (get_or w.period n 0) (get_or w.deadline n 0) made fits early);
       })
-
-  pub released_skipped : (before : Pending) {r : Pending} → all_hold s x w.input n (inputs_at w n) ≡ false
-      → r ≡ record before { next = before.next + get_or w.period n 0; due = never }
-      → Released w s x n (seen before) y (seen r)
-  released_skipped before lacks after = rw after (record { took = took; next = refl; waits = rw lacks })

@@ -37,12 +37,6 @@ put_then {t} {u} {v} {a} {b} {at} {mid} {end} p q =
     }
 
 -- the same place and bytes by another list
-pub put_as : {t u a b : List ℕ} {at end : ℕ} → a ≡ b → Put t at a u end → Put t at b u end
-put_as e p = rw e at p
-
-pub puts_none : (text : Text) → Puts text [] text
-puts_none text = record { same = refl; size = refl; put = record { behind = sym (add-zero text.len); text = refl } }
-
 pub puts_as : {t u : Text} {a b : List ℕ} → a ≡ b → Puts t a u → Puts t b u
 puts_as e p = rw e at p
 

@@ -123,9 +123,6 @@ channels_read s nodes (suc n) =
     }))))
 
 -- what was read has the counts that were asked for
-pub nodes_count : (s : List ℕ) (n : ℕ) (nodes : List Node) → nodes_up_to s n ≡ read nodes → length nodes ≡ n
-nodes_count s n nodes e = ((nodes_read s n).given nodes e).count
-
 pub tokens_count : (s : List ℕ) (at n : ℕ) (tokens : List ℤ) → tokens_up_to s at n ≡ read tokens → length tokens ≡ n
 tokens_count s at n tokens e = ((tokens_read s at n).given tokens e).count
 
