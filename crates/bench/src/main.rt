@@ -9,7 +9,7 @@
 ghost use Rattle.std.specs.Prelude.{◌≤◌, length};
 ghost use Rattle.bench.specs.declared.TheConstants.{MOST_WORDS, MOST_ARRIVALS};
 
-use blocks::Blocks;
+use blocks::{Blocks, Short};
 use std::io;
 use std::io::Write;
 
@@ -77,7 +77,8 @@ fn run_all(out: &mut impl Write, cases: Blocks<'_>) -> io::Result<()> {
         match case.map(Case::framed) {
             Ok(Some(case)) => case.run(out)?,
             Ok(None) => writeln!(out, "badly framed")?,
-            Err(short) => writeln!(out, "{short}")?,
+            // in one write, so that a line is there whole or not at all
+            Err(Short) => out.write_all(b"short\n")?,
         }
     }
     Ok(())

@@ -18,9 +18,9 @@ kind_number Kind.Gate = 9
 kind_number Kind.Ones = 10
 kind_number Kind.FirstBeam = 11
 
--- the kind with this number, or that no kind has it
+-- the kind with this number, or that no kind has it, with the number
 abbrev pub Decodes : ℕ → Result Kind UnknownKind → Type 0
-Decodes number r = MatchResult r (λ kind. kind_number kind ≡ number) (λ unknown. 12 ≤ number)
+Decodes number r = MatchResult r (λ kind. kind_number kind ≡ number) (λ unknown. (12 ≤ number) × (unknown.0 ≡ number))
 
 -- what a number that stands for no kind is shown as
 abbrev pub unknown_text : UnknownKind → List ℕ

@@ -1,5 +1,5 @@
 -- A node's result and its state by the values of the code. Assumes nothing.
-use Rattle.std.specs.Prelude.{ℕ, ◌+◌, cond, ℤ, pos, ◌==◌, Option, Some, None}
+use Rattle.std.specs.Prelude.{ℕ, ◌+◌, cond, ℤ, ◌==◌, Option, Some, None, Result, Ok, Err}
 use Rattle.std.proofs.Math.Option as Math
 use Rattle.rules.specs.Kinds.{signed, pattern}
 use Rattle.rules.specs.Instant.{Waiting}
@@ -27,16 +27,21 @@ pub record Seen : Type 0 where
 abbrev pub seen : Pending → Seen
 seen p = record { next = p.next; due = p.due; value = pattern p.value }
 
--- when a result is due, and what is kept of it: an absent one is never due, and 0 is kept
-abbrev pub due_by : ℕ → Option ℤ → ℕ
-due_by due None = never
-due_by due (Some value) = due
+-- a result, or what is kept where it is absent, as the rules say it
+abbrev pub made_says : Result ℤ ℤ → Math.Option ℤ
+made_says (Ok value) = Math.some value
+made_says (Err kept) = Math.none
 
-abbrev pub value_of : Option ℤ → ℤ
-value_of None = pos 0
-value_of (Some value) = value
+-- when a result is due, and what is kept of it: an absent one is never due
+abbrev pub due_by : ℕ → Result ℤ ℤ → ℕ
+due_by due (Ok value) = due
+due_by due (Err kept) = never
+
+abbrev pub value_of : Result ℤ ℤ → ℤ
+value_of (Ok value) = value
+value_of (Err kept) = kept
 
 -- a node's state after a release that goes ahead
-abbrev pub ahead_of : Pending → ℕ → ℕ → Option ℤ → Pending
+abbrev pub ahead_of : Pending → ℕ → ℕ → Result ℤ ℤ → Pending
 ahead_of before period deadline made =
     record { next = before.next + period; due = due_by (before.next + deadline) made; value = value_of made }

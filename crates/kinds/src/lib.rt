@@ -141,22 +141,22 @@ impl Pending {
         Pending { due: NEVER, ..self }
     }
 
-    // After a release that goes ahead: its result waits, unless it is absent.
-    pub fn ahead(self, period: u32, deadline: u32, made: Option<i32>) -> Self
+    // After a release that goes ahead: its result waits. Where that is absent nothing does, and the value is kept that is given in its place.
+    pub fn ahead(self, period: u32, deadline: u32, made: Result<i32, i32>) -> Self
         requires { (self.next < 2 ^ 24) × (period < 65536) × (deadline < 65536) }
         ensures { result ≡ ahead_of self period deadline made }
     {
         let next = self.next + period;
         match made {
-            Some(value) => Pending {
+            Ok(value) => Pending {
                 next,
                 due: self.next + deadline,
                 value,
             },
-            None => Pending {
+            Err(kept) => Pending {
                 next,
                 due: NEVER,
-                value: 0,
+                value: kept,
             },
         }
     }

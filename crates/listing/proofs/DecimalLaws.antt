@@ -1,7 +1,7 @@
 -- The rules' decimal numbers are the library's: a number of 64 bits and a token of 32 have the same digits there. Assumes nothing.
-use Rattle.std.proofs.Common.{ℕ, zero, suc, ◌+◌, ◌/◌, ◌%◌, ◌^◌, ◌≤◌, ◌<◌, [], ◌∷◌, ◌++◌, length, ◌≡◌, sym, ◌∙◌, ap, arith, ltb, ℤ, pos, negsuc, FitsSigned, w32, to_z, of_z}
+use Rattle.std.proofs.Common.{ℕ, zero, suc, ◌+◌, ◌/◌, ◌%◌, ◌^◌, ◌≤◌, ◌<◌, [], ◌∷◌, ◌++◌, length, ◌≡◌, sym, ◌∙◌, ap, arith, ltb, ℤ, pos, negsuc, FitsSigned, w32, to_z, of_z, length-append}
 use borrow.Author.Tests.{ltb-true, ltb-false, lt-ltb, le-ltb}
-use Rattle.std.proofs.lemmas.Fmt.{decimal_digit, decimal_step, length-decimal-le}
+use Rattle.std.proofs.lemmas.Fmt.{decimal_digit, decimal_step}
 use Rattle.std.proofs.lemmas.Int.{to_z-of_z}
 use native.Mathlib.Nat.{pow-suc}
 use Rattle.std.specs.Fmt as std
@@ -43,8 +43,20 @@ unfolding signed_decimal
 signed_is (pos n) h = let small = h.sfits in decimal_is n (omega arith)
 signed_is (negsuc n) h = let small = h.sfits in ap (λ l. 45 ∷ l) (decimal_is (suc n) (omega arith))
 
-pub decimal_length : (k n : ℕ) → n < 10 ^ suc k → n < 2 ^ 64 → length (decimal n) ≤ suc k
-decimal_length k n h below = rw (decimal_is n below) (length-decimal-le (suc k) n (omega arith) h below)
+-- as many digits as the power of ten that the number is below, at most 20
+digits_length : (m k n : ℕ) → n < 10 ^ suc k → length (digits m n) ≤ suc k
+unfolding digits
+digits_length zero k n h = omega arith
+digits_length (suc m) zero n h = rw (lt-ltb n 10 (omega arith)) (omega arith)
+digits_length (suc m) (suc k) n h =
+    by_test (ltb n 10) (λ e. rw e (omega arith))
+    (λ e.
+    let front : n / 10 < 10 ^ suc k = omega (arith, pow-suc 10 (suc k)) in
+    rw (e, length-append (digits m (n / 10)) ((48 + n % 10) ∷ [])) (omega (arith, digits_length m k (n / 10) front)))
+
+pub decimal_length : (k n : ℕ) → n < 10 ^ suc k → length (decimal n) ≤ suc k
+unfolding decimal
+decimal_length k n h = digits_length 20 k n h
 
 -- a token that is read from 32 bits
 module _ (v : ℕ) (below : v < 2 ^ 32) {z : ℤ} (e : z ≡ signed v) where

@@ -61,10 +61,10 @@ length_more part next parts = length-append part (32 ∷ line (next ∷ parts)) 
 
 -- the most digits of the numbers in a last line
 pub any_digits : (n : ℕ) → n < 2 ^ 64 → length (decimal n) ≤ 20
-any_digits n h = decimal_length 19 n (omega arith) h
+any_digits n h = decimal_length 19 n (omega arith)
 
 pub number_digits : (n : ℕ) → n < 100 → length (decimal n) ≤ 2
-number_digits n h = decimal_length 1 n (omega arith) (omega arith)
+number_digits n h = decimal_length 1 n (omega arith)
 
 pub end_number_small : (end : End) → end_number end ≤ 12
 end_number_small End.Horizon = omega arith
@@ -82,6 +82,9 @@ time_digits n h = length-decimal-le 8 n (omega arith) (omega arith) (omega arith
 
 pub channel_digits : (n : ℕ) → n < 256 → length (std.decimal n) ≤ 3
 channel_digits n h = length-decimal-le 3 n (omega arith) (omega arith) (omega arith)
+
+pub magnitude_digits : (n : ℕ) → n < 10 ^ 10 → length (std.decimal n) ≤ 10
+magnitude_digits n h = length-decimal-le 10 n (omega arith) h (omega arith)
 
 pub token_digits : (z : ℤ) → FitsSigned w32 z → length (std.signed_decimal (to_z w32 (of_z w32 z))) ≤ 11
 token_digits z h = let small = h.sfits in rw (to_z-of_z w32 z h) (length_signed_le 10 z (omega arith) (omega arith))

@@ -1,7 +1,8 @@
 // The pole's listing: from the bytes of standard input to the bytes of the listing, in a lent buffer.
 #![tactic(auto)]
 
-ghost use Rattle.std.specs.Prelude.{◌≡◌, false, [], ◌∷◌, ◌++◌, ◌+◌, ◌*◌, ◌/◌, ◌≤◌, ◌<◌, length, take, map, MatchOption};
+ghost use Rattle.std.specs.Prelude.{◌≡◌, false, [], ◌∷◌, ◌++◌, ◌+◌, ◌*◌, ◌/◌, ◌≤◌, ◌<◌, length, take, drop, map, MatchOption};
+ghost use Rattle.std.specs.Fmt.{signed_decimal};
 ghost use Rattle.rules.specs.Lists.{tab, joined};
 ghost use Rattle.rules.specs.Refusals.{run, ran_says};
 ghost use Rattle.rules.specs.Listing.{bytes_at, framed, decimal, line, word_line, listing};
@@ -23,6 +24,33 @@ const MOST_ARRIVALS: usize = 2048;
 
 // The words that an output list has room for.
 const WORDS: usize = 2048;
+
+// ---- A word's line, from its end
+
+// The longest line of a word: a time of 8 digits, a channel of 3, a token of 10 and its sign, two blanks and a line feed.
+const LINE: usize = 25;
+
+// Writes a byte before what stands from `at` on; answers where it stands.
+fn byte_before(line: &mut [u8; LINE], at: usize, b: u8) -> usize
+    requires { (1 ≤ at) × (at ≤ 25) }
+    ensures { (result + 1 ≡ at) × (drop result line.new ≡ b ∷ drop at line.old) }
+{
+    line[at - 1] = b;
+    at - 1
+}
+
+// Writes a token in decimal before what stands from `at` on; answers where it begins.
+#[tactic(auto, using(crate::proofs::LineLaws::magnitude_digits))]
+fn token_before(line: &mut [u8; LINE], at: usize, v: i32) -> usize
+    requires { (11 ≤ at) × (at ≤ 25) }
+    ensures { (result + length (signed_decimal v) ≡ at) × (drop result line.new ≡ signed_decimal v ++ drop at line.old) }
+{
+    let digits = itoa::write_digits(u64::from(v.unsigned_abs()), line, at);
+    if v < 0 {
+        return byte_before(line, digits, b'-');
+    }
+    digits
+}
 
 // ---- Text
 
@@ -54,19 +82,22 @@ impl Text<'_> {
         self.put(digits.format(n).as_bytes());
     }
 
-    // Puts a word's line: time, channel and value.
+    // Puts a word's line: time, channel and value. The line is made from its end, as the digits of a number are, and then put at once: numbers put one by
+    // one took half as much time again where they are short (docs/LOOK-BACK.md).
     #[tactic(auto, using(crate::proofs::LineLaws::word_digits))]
     fn put_word(&mut self, w: u64)
         requires { HasRoom self.old 25 }
         ensures line { Puts self.old (word_line w) self.new }
         ensures short { self.new.len ≤ self.old.len + 25 }
     {
-        self.put_number(words::time_in(w));
-        self.put(b" ");
-        self.put_number(words::channel_in(w));
-        self.put(b" ");
-        self.put_number(words::value_in(w));
-        self.put(b"\n");
+        let mut line = [0; LINE];
+        let end = byte_before(&mut line, LINE, b'\n');
+        let value = token_before(&mut line, end, words::value_in(w));
+        let behind = byte_before(&mut line, value, b' ');
+        let channel = itoa::write_digits(words::channel_in(w) as u64, &mut line, behind);
+        let behind = byte_before(&mut line, channel, b' ');
+        let time = itoa::write_digits(u64::from(words::time_in(w)), &mut line, behind);
+        self.put(&line[time..]);
     }
 
     // Puts the lines of words.

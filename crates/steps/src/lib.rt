@@ -127,6 +127,16 @@ fn gather(plan: &Plan, state: &State, t: u32, words: &mut [u64; 64]) -> usize
     count
 }
 
+// Copies an instant's words into as many entries. Most instants have none, and then there is nothing to call for.
+fn copy_out(words: &[u64], entries: &mut [u64])
+    requires { length words.now ≡ length entries.old }
+    ensures { entries.new ≡ words.now }
+{
+    if !words.is_empty() {
+        entries.copy_from_slice(words);
+    }
+}
+
 // ---- Step 4: reads
 
 // The channel at port `p` of node `n`.
@@ -199,7 +209,7 @@ fn release(plan: &Plan, state: &mut State, before: Pending, n: usize) -> Pending
         Some(tokens) => {
             let [a, b, c] = tokens;
             let made = node.kind.result(node.constant, a, b, c);
-            before.ahead(node.period, node.deadline, made)
+            before.ahead(node.period, node.deadline, made.ok_or(0))
         }
         None => before.skipped(node.period),
     }
@@ -315,7 +325,7 @@ fn words_and_reads(
     if list.len() - count < more {
         return Err(Stop::Short);
     }
-    list[count..count + more].copy_from_slice(&words[..more]);
+    copy_out(&words[..more], &mut list[count..count + more]);
     let soon = read_all(plan, state, t, arrived.time.unwrap_or(NEVER));
     Ok(On {
         more,

@@ -70,6 +70,8 @@ fn main(rt: HostRuntime) -> io::Result<()> {
     match list_all(&mut rt.stdin(), &mut out, &mut room, &mut text) {
         Ok(()) => Ok(()),
         Err(Stop::Failed(why)) => Err(why),
-        Err(why) => writeln!(out, "{why}"),
+        // each in one write, so that a line is there whole or not at all
+        Err(Stop::Short) => out.write_all(b"short\n"),
+        Err(Stop::TooLong) => out.write_all(b"too long\n"),
     }
 }

@@ -3,7 +3,7 @@
 // ends. Where a read or a write fails it says so on standard error, and its status is 1.
 #![tactic(auto)]
 
-use blocks::Blocks;
+use blocks::{Blocks, Short};
 use std::io;
 use std::io::Write;
 
@@ -19,7 +19,8 @@ fn check_all(out: &mut impl Write, tables: Blocks<'_>) -> io::Result<()> {
     for table in tables {
         match table {
             Ok(table) => check(out, table)?,
-            Err(short) => writeln!(out, "{short}")?,
+            // in one write, so that a line is there whole or not at all
+            Err(Short) => out.write_all(b"short\n")?,
         }
     }
     Ok(())

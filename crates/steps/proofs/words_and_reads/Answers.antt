@@ -16,4 +16,4 @@ returns-clause-says c =
     let same : c.args.count + c.gather-more.result - c.args.count ≡ c.gather-more.result = omega arith in
     let read = c.read_all-soon.ensures in
     λ net arrivals st x all comes written.
-    step_on c.args.plan.now c.args.state.now written gathered.0 gathered.1 all c.if-list-count.false (rw (same, c.copy_from_slice.ensures.after, drop-drop)) read.whole read.paired read.read (c.unwrap_or.ensures ∙ comes) read.soon
+    step_on c.args.plan.now c.args.state.now written gathered.0 gathered.1 all c.if-list-count.false (rw (same, c.copy_out.ensures, drop-drop)) read.whole read.paired read.read (c.unwrap_or.ensures ∙ comes) read.soon
