@@ -88,7 +88,7 @@ pub fn signed(x: u32) -> i32
     x.cast_signed()
 }
 
-// The 32 bits of a token. No code here calls it: a public function that docs/STATEMENTS.md names.
+// The 32 bits of a token.
 pub fn pattern(x: i32) -> u32
     ensures { result ≡ of_z w32 x }
 {

@@ -19,7 +19,7 @@ pub fn time_in(w: u64) -> u32
 pub fn value_in(w: u64) -> i32
     ensures { result ≡ value_in w }
 {
-    ((w % 0x1_0000_0000) as u32).cast_signed()
+    fields::signed((w % 0x1_0000_0000) as u32)
 }
 
 pub fn word(channel: usize, time: u32, value: i32) -> u64
@@ -28,5 +28,5 @@ pub fn word(channel: usize, time: u32, value: i32) -> u64
 {
     channel as u64 * 0x100_0000_0000_0000
         + u64::from(time) * 0x1_0000_0000
-        + u64::from(value.cast_unsigned())
+        + u64::from(fields::pattern(value))
 }
