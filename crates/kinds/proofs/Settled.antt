@@ -100,6 +100,9 @@ written κs args o p e f = Σ_path (e ∙⁻¹ f) refl
 pub ahead : Settled contracts.Pending.ahead.ended calls.Pending.ahead.Reads.Learnt
 ahead κs args o p e f = Σ_path (e ∙⁻¹ f) refl
 
+pub released : Settled contracts.Pending.released.ended calls.Pending.released.Reads.Learnt
+released κs args o p e f = Σ_path (e ∙⁻¹ f) refl
+
 pub skipped : Settled contracts.Pending.skipped.ended calls.Pending.skipped.Reads.Learnt
 skipped κs args o p e f = Σ_path (e ∙⁻¹ f) refl
 

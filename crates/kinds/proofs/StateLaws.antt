@@ -19,7 +19,9 @@ ahead_waits before period deadline (Err kept) fits early = refl
 ahead_waits before period deadline (Ok v) fits early =
     rw (waits_by (before.next + deadline) _ early, signed_pattern v (fits v refl))
 
--- an answer with what is kept in place of an absent one says what it said
-pub said_or : (made : Option ℤ) (kept : ℤ) → made_says (ok_or made kept) ≡ said made
-said_or None kept = refl
-said_or (Some v) kept = refl
+-- so also where a value is kept in place of an absent result
+pub kept_waits : (before : Pending) (period deadline : ℕ) (made : Option ℤ) (kept : ℤ) → ((v : ℤ) → made ≡ Some v → SFits w32 v) → before.next + deadline < never
+    → waiting_by (seen (ahead_of before period deadline (ok_or made kept))).due (seen (ahead_of before period deadline (ok_or made kept))).value ≡ wait_for (before.next + deadline) (said made)
+kept_waits before period deadline None kept fits early = refl
+kept_waits before period deadline (Some v) kept fits early =
+    rw (waits_by (before.next + deadline) _ early, signed_pattern v (fits v refl))

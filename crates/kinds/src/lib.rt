@@ -1,7 +1,8 @@
 // What a node computes and how its state moves on, by value.
 #![tactic(auto)]
 
-ghost use Rattle.std.specs.Prelude.{◌≡◌, ◌+◌, ◌^◌, ◌<◌, min, false, Some};
+ghost use Rattle.std.specs.Prelude.{◌≡◌, ◌+◌, ◌^◌, ◌<◌, min, false, pos, Some};
+ghost use Rattle.std.specs.Option.{ok_or};
 ghost use Rattle.rules.specs.Kinds.{is_zero, constant_ok, result as kind_result, inputs};
 ghost use Rattle.kinds.specs.declared.Kind.{Kind};
 ghost use Rattle.kinds.specs.Kind.{kind_number, Decodes, unknown_text};
@@ -159,6 +160,14 @@ impl Pending {
                 value: kept,
             },
         }
+    }
+
+    // After a release that goes ahead, by what the node made: where that is absent, 0 is kept.
+    pub fn released(self, period: u32, deadline: u32, made: Option<i32>) -> Self
+        requires { (self.next < 2 ^ 24) × (period < 65536) × (deadline < 65536) }
+        ensures { result ≡ ahead_of self period deadline (ok_or made (pos 0)) }
+    {
+        self.ahead(period, deadline, made.ok_or(0))
     }
 
     // After a release that skips: nothing waits.

@@ -209,7 +209,7 @@ fn release(plan: &Plan, state: &mut State, before: Pending, n: usize) -> Pending
         Some(tokens) => {
             let [a, b, c] = tokens;
             let made = node.kind.result(node.constant, a, b, c);
-            before.ahead(node.period, node.deadline, made.ok_or(0))
+            before.released(node.period, node.deadline, made)
         }
         None => before.skipped(node.period),
     }

@@ -16,5 +16,6 @@ returns-clause-line c =
     let made = c.write_digits-time.new.buf in
     puts_as
     (take_all (25 - at) (drop at made) (omega (arith, length-drop at made))
-    ∙ rw (c.write_digits-time.ensures.written, c.byte_before-behind-2.ensures.1, c.write_digits-channel.ensures.written, c.byte_before-behind.ensures.1, c.token_before-value.ensures.1, c.byte_before-end.ensures.1, time, channel, value) refl)
+    ∙ rw (c.write_digits-time.ensures.written, c.byte_before-behind-2.ensures.1, c.write_digits-channel.ensures.written)
+    (rw (c.byte_before-behind.ensures.1, c.token_before-value.ensures.1, c.byte_before-end.ensures.1, time, channel, value) refl))
     c.put.ensures
